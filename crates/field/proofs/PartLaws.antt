@@ -1,0 +1,23 @@
+-- Laws about parts of a list of bytes.
+use Prim.Native.Nat.{ℕ, _+_, _-_, _≤_, _<_, min}
+use mathlib.Core.Path.{_≡_, refl, ap}
+use mathlib.Core.List.{List}
+use native.Mathlib.Omega.{arith}
+use lib.ListN.{length, getD, take, drop, set, length-take, length-drop, length-set}
+use lib.Seq.{getD-take, getD-drop, take-take, drop-set-lt, take-set-le, drop-set-add}
+use Rattle.field.specs.Part.{part}
+
+-- A part that lies inside is as long as asked.
+pub part-length : (s : List ℕ) (at n : ℕ) → at + n ≤ length s → length (part s at n) ≡ n
+unfolding part
+part-length s at n h = simp (length-take, length-drop) (omega arith)
+
+-- The i-th byte of a part is the byte i behind its start.
+pub part-at : (s : List ℕ) (at n i : ℕ) → i < n → getD (part s at n) i 0 ≡ getD s (at + i) 0
+unfolding part
+part-at s at n i h = rw (getD-take, getD-drop)
+
+-- The first k bytes of a part are the part of k bytes.
+pub part-take : (s : List ℕ) (at n k : ℕ) → k ≤ n → take k (part s at n) ≡ part s at k
+unfolding part
+part-take s at n k h = rw take-take
