@@ -2,10 +2,11 @@
 use Prim.Native.Nat.{ℕ, zero, suc, _≤_, _<_}
 use native.Mathlib.Nat.{le-refl, le-trans}
 use mathlib.Core.Path.{_≡_, refl, ap, sym, _∙_, subst}
-use mathlib.Core.List.{List, [], _∷_}
-use mathlib.Core.Bool.{Bool, true, false, not}
-use lib.Dec.{T, ltb, eqb}
-use borrow.Author.Tests.{lt-ltb, le-ltb, eq-eqb, ne-eqb, ltb-true, ltb-false, eqb-true, eqb-false, not-true, not-false}
+use mathlib.Core.List.{List, [], _∷_, _++_}
+use mathlib.Core.Bool.{Bool, true, false, not, _&&_}
+use native.Mathlib.Omega.{arith}
+use lib.Dec.{T, leb, ltb, eqb}
+use borrow.Author.Tests.{lt-ltb, le-ltb, eq-eqb, ne-eqb, leb-true, ltb-true, ltb-false, eqb-true, eqb-false, not-true, not-false}
 use Rattle.field.specs.First.{less, differ, when, Reason, _gives_, firstNumber, Ascending, Applies, FirstIsSmallest}
 use Rattle.field.specs.First.Ascending.{no-more, then}
 use Rattle.field.specs.First.Applies.{here, later}
@@ -65,6 +66,9 @@ pub clear : firstNumber [] ≡ 0
 unfolding firstNumber
 clear = refl
 
+suc-not-zero : (n : ℕ) → suc n ≡ 0 → ⊥
+suc-not-zero n e = omega arith
+
 -- Where no number applies, the first reason does not hold and none of the rest does.
 pub record Clear (t : Bool) (rest : List Reason) : Type 0 where
   pub fails : t ≡ false
@@ -72,8 +76,29 @@ pub record Clear (t : Bool) (rest : List Reason) : Type 0 where
 
 pub all-clear : (t : Bool) (n : ℕ) (rest : List Reason) → firstNumber ((t gives suc n) ∷ rest) ≡ 0 → Clear t rest
 unfolding firstNumber when
-all-clear true n rest e = absurd (subst (λ (k : ℕ). elim k as (λ _. Type 0) [ zero ↦ ⊥ | suc m ↦ Unit {0} ]) e tt)
+all-clear true n rest e = absurd (suc-not-zero n e)
 all-clear false n rest e = record { fails = refl; others = e }
+
+-- Of two lists in a row the first decides where one of its numbers applies, else the second.
+pub append-stops : (first rest : List Reason) (n : ℕ) → firstNumber first ≡ n → (n ≡ 0 → ⊥) → firstNumber (first ++ rest) ≡ n
+unfolding firstNumber when
+append-stops [] rest n e h = absurd (h (sym e))
+append-stops ((true gives m) ∷ first) rest n e h = e
+append-stops ((false gives m) ∷ first) rest n e h = append-stops first rest n e h
+
+-- whether each number of the list is positive
+unfoldable pub positive : List Reason → Bool
+positive [] = true
+positive ((test gives zero) ∷ rest) = false
+positive ((test gives suc n) ∷ rest) = positive rest
+
+pub append-passes : (first rest : List Reason) → T (positive first) → firstNumber first ≡ 0 → firstNumber (first ++ rest) ≡ firstNumber rest
+unfolding firstNumber when positive
+append-passes [] rest t e = refl
+append-passes ((true gives zero) ∷ first) rest t e = absurd t
+append-passes ((true gives suc m) ∷ first) rest t e = absurd (suc-not-zero m e)
+append-passes ((false gives zero) ∷ first) rest t e = absurd t
+append-passes ((false gives suc m) ∷ first) rest t e = append-passes first rest t e
 
 -- In an ascending list every number that applies is at least the list's bound.
 at-least : {m : ℕ} {reasons : List Reason} → Ascending m reasons → {n : ℕ} → Applies n reasons → m ≤ n
@@ -90,3 +115,18 @@ smallest (then {test = false} le rest) (later a) = smallest rest a
 
 pub first-is-smallest : FirstIsSmallest
 first-is-smallest m n reasons ascending applies = smallest ascending applies
+
+-- whether each number of the list is at least the bound and the one before it
+unfoldable pub ascends : ℕ → List Reason → Bool
+ascends m [] = true
+ascends m ((test gives n) ∷ rest) = leb m n && ascends n rest
+
+-- A list of which that is computed ascends.
+pub ascending : (m : ℕ) (reasons : List Reason) → T (ascends m reasons) → Ascending m reasons
+unfolding ascends
+ascending m [] t = no-more
+ascending m ((test gives n) ∷ rest) t = go (leb m n) refl t (ascending n rest)
+  where
+    go : (b : Bool) → leb m n ≡ b → T (b && ascends n rest) → (T (ascends n rest) → Ascending n rest) → Ascending m ((test gives n) ∷ rest)
+    go true e t more = then (leb-true m n e) (more t)
+    go false e t more = absurd t

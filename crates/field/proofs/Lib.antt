@@ -5,3 +5,4 @@ pub mod PartLaws
 pub mod TextLaws
 pub mod WalkLaws
 pub mod FirstLaws
+pub mod ChoiceLaws

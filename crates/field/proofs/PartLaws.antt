@@ -1,10 +1,10 @@
 -- Laws about parts of a list of bytes.
 use Prim.Native.Nat.{ℕ, _+_, _-_, _≤_, _<_, min}
-use mathlib.Core.Path.{_≡_, refl, ap}
+use mathlib.Core.Path.{_≡_, sym, _∙_}
 use mathlib.Core.List.{List}
 use native.Mathlib.Omega.{arith}
-use lib.ListN.{length, getD, take, drop, set, length-take, length-drop, length-set}
-use lib.Seq.{getD-take, getD-drop, take-take, drop-set-lt, take-set-le, drop-set-add}
+use lib.ListN.{length, getD, take, drop, length-take, length-drop}
+use lib.Seq.{getD-take, getD-drop, take-take, ext-getD}
 use Rattle.field.specs.Part.{part}
 
 -- A part that lies inside is as long as asked.
@@ -21,3 +21,16 @@ part-at s at n i h = rw (getD-take, getD-drop)
 pub part-take : (s : List ℕ) (at n k : ℕ) → k ≤ n → take k (part s at n) ≡ part s at k
 unfolding part
 part-take s at n k h = rw take-take
+
+-- A part that lies inside the first k bytes is the same part there.
+pub part-of-take : (s : List ℕ) (k at n : ℕ) → at + n ≤ k → part (take k s) at n ≡ part s at n
+part-of-take s k at n h = ext-getD 0 (part (take k s) at n) (part s at n) lengths elements
+  where
+    lengths : length (part (take k s) at n) ≡ length (part s at n)
+    lengths = unfold part in simp (length-take, length-drop) (omega arith)
+
+    elements : (i : ℕ) → i < length (part (take k s) at n) → getD (part (take k s) at n) i 0 ≡ getD (part s at n) i 0
+    elements i b =
+        let l : length (part (take k s) at n) ≤ n = unfold part in rw length-take (omega arith) in
+        let c : i < n = omega arith in
+        part-at (take k s) at n i c ∙ getD-take k s (at + i) 0 (omega arith) ∙ sym (part-at s at n i c)

@@ -5,3 +5,4 @@ pub mod Part
 pub mod Text
 pub mod Walk
 pub mod First
+pub mod Choice

@@ -1,0 +1,3 @@
+-- Laws about generic addresses.
+pub mod AddressLaws
+pub mod Examples

@@ -1,0 +1,2 @@
+-- A worked example of the definitions.
+pub mod Examples

@@ -1,0 +1,2 @@
+-- What an HPET table says.
+pub mod Hpet

@@ -1,0 +1,184 @@
+-- Laws about places and views: the theorems of specs/Statements, and what the crates above use.
+use Prim.Native.Nat.{ℕ, zero, suc, _+_, _-_, _≤_, _<_, min}
+use mathlib.Core.Path.{_≡_, refl, ap, sym, _∙_}
+use mathlib.Core.List.{List, [], _∷_, _++_}
+use mathlib.Core.Bool.{Bool, true, false, _&&_}
+use mathlib.Core.Logic.{_⊎_, ⊎-elim}
+use native.Mathlib.Omega.{arith}
+use native.Mathlib.Decide.{decLe}
+use lib.ListN.{length, take, drop, set, length-take, length-drop, length-set}
+use lib.Seq.{take-take, take-all, drop-set-lt, drop-set-add, take-set-le}
+use Rattle.field.specs.Part.{part}
+use Rattle.field.proofs.FirstLaws.{when-hit, when-pass}
+use Rattle.field.proofs.PartLaws.{part-length}
+use Rattle.memory.specs.Ranges.{rangesOf, inside, allInside, follows, ordered, right}
+use Rattle.memory.specs.Places.{holds, placeIn, placeOf, bytesAt, viewOf, Elsewhere}
+use Rattle.memory.specs.Statements.{OneHolder, InsideTheSlice, Within, InsideOneRange, ReadableIfHeld, OtherBytesStay}
+use Rattle.memory.specs.declared.Range.{Range}
+use Rattle.memory.specs.declared.Place.{Place}
+use Rattle.memory.specs.declared.Place.the-variants.{At, Unmapped}
+use Rattle.memory.proofs.TestLaws.{and-left, and-right}
+use Rattle.memory.proofs.RangeLaws.{right-inside, right-ordered, inside-slice, follows-end, holds-start, holds-len, holds-yes, holds-below}
+
+-- A place that was found is that in a range of the list that holds the address.
+pub record Found (rs : List Range) (p offset room : ℕ) : Type 0 where
+  pub before : List Range
+  pub range : Range
+  pub after : List Range
+  pub listed : rs ≡ before ++ range ∷ after
+  pub held : holds range p ≡ true
+  pub place : placeIn range p ≡ At offset room
+
+place-found : (rs : List Range) (p offset room : ℕ) → placeOf rs p ≡ At offset room → Found rs p offset room
+unfolding placeOf
+place-found [] p offset room e = absurd (let z : _≡_ {A = ℕ} 0 1 = cc in omega arith)
+place-found (r ∷ rs) p offset room e = go (holds r p) refl (place-found rs p offset room)
+  where
+    go : (t : Bool) → holds r p ≡ t → (placeOf rs p ≡ At offset room → Found rs p offset room) → Found (r ∷ rs) p offset room
+    go true h later = record { before = []; range = r; after = rs; listed = refl; held = h; place = sym (when-hit _ _ _ h) ∙ e }
+    go false h later =
+        let f = later (sym (when-pass _ (placeIn r p) _ h) ∙ e) in
+        record {
+          before = r ∷ f .before;
+          range = f .range;
+          after = f .after;
+          listed = ap (λ (l : List Range). r ∷ l) (f .listed);
+          held = f .held;
+          place = f .place;
+        }
+
+-- Each range of a list whose ranges are all inside is.
+member-inside : (size : ℕ) (before after : List Range) (r : Range) → allInside size (before ++ r ∷ after) ≡ true → inside size r ≡ true
+unfolding allInside
+member-inside size [] after r e = and-left _ (allInside size after) e
+member-inside size (b ∷ before) after r e = member-inside size before after r (and-right (inside size b) _ e)
+
+-- What `placeIn` says, as numbers.
+record Numbers (r : Range) (p offset room : ℕ) : Type 0 where
+  pub at : r .offset + (p - r .start) ≡ offset
+  pub left : r .len - (p - r .start) ≡ room
+
+numbers : (r : Range) (p offset room : ℕ) → placeIn r p ≡ At offset room → Numbers r p offset room
+unfolding placeIn
+numbers r p offset room e = record { at = cc; left = cc }
+
+pub inside-the-slice : InsideTheSlice
+inside-the-slice size words p offset room e q =
+    let f = place-found (rangesOf words) p offset room q in
+    let n = numbers (f .range) p offset room (f .place) in
+    let i = inside-slice size (f .range) (member-inside size (f .before) (f .after) (f .range) (ap (allInside size) (sym (f .listed)) ∙ right-inside size words e)) in
+    omega (arith, holds-len (f .range) p (f .held))
+
+pub inside-one-range : InsideOneRange
+inside-one-range words p offset room q =
+    let f = place-found (rangesOf words) p offset room q in
+    let n = numbers (f .range) p offset room (f .place) in
+    let h = holds-start (f .range) p (f .held) in
+    let k = holds-len (f .range) p (f .held) in
+    record {
+      before = f .before;
+      range = f .range;
+      after = f .after;
+      listed = f .listed;
+      starts = h;
+      ends = omega arith;
+      stands = omega arith;
+      some = omega arith;
+    }
+
+-- In an ordered list a range ends before every later one starts.
+ends-before : (b : Range) (between after : List Range) (r : Range) → ordered (b ∷ (between ++ r ∷ after)) ≡ true → b .start + b .len ≤ r .start
+unfolding ordered
+ends-before b [] after r e = follows-end b r (and-left _ (ordered (r ∷ after)) e)
+ends-before b (c ∷ between) after r e =
+    omega (arith, follows-end b c (and-left _ (ordered (c ∷ (between ++ r ∷ after))) e), ends-before c between after r (and-right (follows b c) _ e))
+
+ordered-tail : (b : Range) (rs : List Range) → ordered (b ∷ rs) ≡ true → ordered rs ≡ true
+unfolding ordered
+ordered-tail b [] e = refl
+ordered-tail b (r ∷ rs) e = and-right (follows b r) _ e
+
+one-holder-in : (before after : List Range) (r : Range) (p : ℕ) → ordered (before ++ r ∷ after) ≡ true → holds r p ≡ true
+    → placeOf (before ++ r ∷ after) p ≡ placeIn r p
+unfolding placeOf
+one-holder-in [] after r p e h = when-hit _ _ _ h
+one-holder-in (b ∷ before) after r p e h =
+    when-pass _ _ _ (holds-below b p (omega (arith, ends-before b before after r e, holds-start r p h)))
+    ∙ one-holder-in before after r p (ordered-tail b (before ++ r ∷ after) e) h
+
+pub one-holder : OneHolder
+one-holder size words before after r p e listed h =
+    ap (λ (l : List Range). placeOf l p) listed
+    ∙ one-holder-in before after r p (ap ordered (sym listed) ∙ right-ordered size words e) h
+
+-- The view at a place is that part of the slice.
+pub view-at : (image words : List ℕ) (p offset room : ℕ) → placeOf (rangesOf words) p ≡ At offset room → viewOf image words p ≡ part image offset room
+unfolding viewOf bytesAt
+view-at image words p offset room q = ap (bytesAt image) q
+
+pub view-none : (image words : List ℕ) (p : ℕ) → placeOf (rangesOf words) p ≡ Unmapped → viewOf image words p ≡ []
+unfolding viewOf bytesAt
+view-none image words p q = ap (bytesAt image) q
+
+-- In a right list the view has all the room of its place.
+pub view-room : (image words : List ℕ) (p offset room : ℕ) → right (length image) words ≡ true → placeOf (rangesOf words) p ≡ At offset room
+    → length (viewOf image words p) ≡ room
+view-room image words p offset room e q =
+    ap length (view-at image words p offset room q) ∙ part-length image offset room (inside-the-slice (length image) words p offset room e q)
+
+pub readable-if-held : ReadableIfHeld
+readable-if-held image words before after r p n e listed h k =
+    let held = holds-yes r p h (omega arith) in
+    let q = one-holder (length image) words before after r p e listed held in
+    omega (arith, view-room image words p (r .offset + (p - r .start)) (r .len - (p - r .start)) e (q ∙ unfold placeIn in refl))
+
+-- How long a view is depends on how long the slice is, and not on its bytes.
+place-length-same : (image image′ : List ℕ) (place : Place) → length image ≡ length image′
+    → length (bytesAt image place) ≡ length (bytesAt image′ place)
+unfolding bytesAt part
+place-length-same image image′ (At offset room) e = simp (length-take, length-drop) (ap (λ (n : ℕ). min room (n - offset)) e)
+place-length-same image image′ Unmapped e = refl
+
+pub view-length-same : (image image′ words : List ℕ) (p : ℕ) → length image ≡ length image′
+    → length (viewOf image words p) ≡ length (viewOf image′ words p)
+unfolding viewOf
+view-length-same image image′ words p e = place-length-same image image′ (placeOf (rangesOf words) p) e
+
+-- The first n of the first room elements are the first elements of the smaller number.
+take-min : (n room : ℕ) (l : List ℕ) → take n (take room l) ≡ take (min n room) l
+take-min n room l =
+    elim (decLe n room) [
+      | yes h ↦
+          let e : n ≡ min n room = omega arith in
+          take-take n room l h ∙ ap (λ (k : ℕ). take k l) e
+      | no h ↦
+          let e : room ≡ min n room = omega arith in
+          take-all n (take room l) (rw length-take (omega arith)) ∙ ap (λ (k : ℕ). take k l) e
+    ]
+
+-- A byte outside a part can change, and the part stays.
+pub part-stays : (image : List ℕ) (offset room n j b : ℕ) → (j < offset) ⊎ (offset + min n room ≤ j)
+    → take n (part (set image j b) offset room) ≡ take n (part image offset room)
+unfolding part
+part-stays image offset room n j b outside =
+    take-min n room (drop offset (set image j b))
+    ∙ ⊎-elim
+    (λ before. ap (take (min n room)) (drop-set-lt offset image j b before))
+    (λ behind.
+    let e : j ≡ offset + (j - offset) = omega arith in
+    ap (λ (i : ℕ). take (min n room) (drop offset (set image i b))) e
+    ∙ ap (take (min n room)) (drop-set-add offset image (j - offset) b)
+    ∙ take-set-le (min n room) (drop offset image) (j - offset) b (omega arith))
+    outside
+    ∙ sym (take-min n room (drop offset image))
+
+place-stays : (image : List ℕ) (place : Place) (n j b : ℕ)
+    → ((offset room : ℕ) → place ≡ At offset room → (j < offset) ⊎ (offset + min n room ≤ j))
+    → take n (bytesAt (set image j b) place) ≡ take n (bytesAt image place)
+unfolding bytesAt
+place-stays image (At offset room) n j b elsewhere = part-stays image offset room n j b (elsewhere offset room refl)
+place-stays image Unmapped n j b elsewhere = refl
+
+pub other-bytes-stay : OtherBytesStay
+unfolding viewOf
+other-bytes-stay image words p n j b elsewhere = place-stays image (placeOf (rangesOf words) p) n j b elsewhere

@@ -1,0 +1,2 @@
+-- Laws about valid tables, which the crates above cite.
+pub mod ValidLaws

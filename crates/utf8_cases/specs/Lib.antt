@@ -1,0 +1,2 @@
+-- How the answers about a class of strings are counted.
+pub mod Count
