@@ -501,6 +501,15 @@ def fadt_field(table, offset, size):
     return FOUND, [number_at(table, offset, size)]
 
 
+def fadt_flag(table, offset, bit):
+    """Question 44: a bit of a field of flags, by the field's offset."""
+    size = {109: 2, 112: 4, 129: 2}[offset]
+    answer, values = fadt_field(table, offset, size)
+    if answer != FOUND:
+        return refused(answer)
+    return FOUND, [values[0] // 2 ** bit % 2]
+
+
 # MADT: docs/TABLES.md, section 11.
 
 MADT_FIXED = 44
@@ -546,13 +555,14 @@ def madt_fixed(table):
 
 def madt_entry(table, k):
     """Question 51: kind, offset from the table's start and length of the k-th
-    entry. 15 if an inconsistent entry is the k-th or comes before it."""
+    entry. What stands behind an inconsistent entry is no entry: 15 for the k-th
+    that is inconsistent, 13 for all after it."""
     if not is_whole_table(table, MADT_FIXED):
         return refused(TOO_SHORT)
     entries, consistent = madt_entries(table)
     if k < len(entries):
         return FOUND, list(entries[k])
-    if not consistent:
+    if k == len(entries) and not consistent:
         return refused(WRONG_ENTRY)
     return refused(NO_SUCH_ADDRESS)
 
@@ -678,11 +688,13 @@ def madt_lists(table):
 
 
 def madt_mailbox(table):
-    """Question 54: the mailbox address of the first entry of kind 16. What comes
-    after that entry is not looked at."""
+    """Question 54: the mailbox address of the first entry of kind 16. A table with
+    an inconsistent entry is refused, also where that entry comes later."""
     if not is_whole_table(table, MADT_FIXED):
         return refused(TOO_SHORT)
-    entries, _ = madt_entries(table)
+    entries, consistent = madt_entries(table)
+    if not consistent:
+        return refused(WRONG_ENTRY)
     for kind, offset, _ in entries:
         if kind == 16:
             return FOUND, [number_at(table, offset + 8, 8)]
@@ -713,6 +725,7 @@ TABLE_QUESTIONS = {
     41: fadt_firmware_control,
     42: fadt_dsdt,
     43: fadt_field,
+    44: fadt_flag,
     50: madt_fixed,
     51: madt_entry,
     52: madt_model,
