@@ -53,11 +53,11 @@ only-named answer named agreed =
         sym (agreed image (set image j b) words (sym (length-set image j b)) (others-agree image words j b (named image words) outside))
 
 -- The first element of a list has what all have.
-first : {A : Type 0} {P : A → Type 0} {p : A} {ps : List A} → All P (p ∷ ps) → P p
+pub first : {A : Type 0} {P : A → Type 0} {p : A} {ps : List A} → All P (p ∷ ps) → P p
 first (with h a) = h
 
 -- What all pieces of some addresses have, those of each address have.
-all-of-each : {A B : Type 0} {P : B → Type 0} (f : A → List B) (ps : List A) → All P (flatMap f ps) → All (λ p. All P (f p)) ps
+pub all-of-each : {A B : Type 0} {P : B → Type 0} (f : A → List B) (ps : List A) → All P (flatMap f ps) → All (λ p. All P (f p)) ps
 unfolding flatMap
 all-of-each f [] a = none
 all-of-each f (p ∷ ps) a = with (all-left (f p) (flatMap f ps) a) (all-of-each f ps (all-right (f p) (flatMap f ps) a))
@@ -77,7 +77,7 @@ module _ (image image′ words : List ℕ) (l : length image ≡ length image′
   same-length : (p : ℕ) → AgreeOn image image′ words (headerAt p) → lengthOf (viewOf image words p) ≡ lengthOf (viewOf image′ words p)
   same-length p header = same-number headerSize _ _ header 4 4 (omega arith)
 
-  same-whole : (p : ℕ) → AgreeOn image image′ words (headerAt p) → AgreeOn image image′ words (wholeAt image words p)
+  pub same-whole : (p : ℕ) → AgreeOn image image′ words (headerAt p) → AgreeOn image image′ words (wholeAt image words p)
       → wholeOf (viewOf image words p) ≡ wholeOf (viewOf image′ words p)
   same-whole p header whole = whole ∙ ap (λ (n : ℕ). take n (viewOf image′ words p)) (same-length p header)
 
@@ -93,7 +93,7 @@ module _ (image image′ words : List ℕ) (l : length image ≡ length image′
   unfolding tableIn
   same-told p header = rw (same-length p header)
 
-  same-header : (wanted : Wanted) (p : ℕ) → All (AgreeOn image image′ words) (namedTable image words p wanted) → AgreeOn image image′ words (headerAt p)
+  pub same-header : (wanted : Wanted) (p : ℕ) → All (AgreeOn image image′ words) (namedTable image words p wanted) → AgreeOn image image′ words (headerAt p)
   unfolding namedTable
   same-header wanted p (with header whole) = header
 

@@ -1,0 +1,7 @@
+"""`python3 -m tablewalk`, the same as the command at the checkout's root."""
+
+import sys
+
+from .command import main
+
+sys.exit(main())

@@ -1,0 +1,6 @@
+-- The questions that other languages ask: a number is the result, values go to a lent buffer.
+pub mod Answer
+pub mod Asked
+pub mod Fadt
+pub mod Lists
+pub mod Statements
