@@ -50,6 +50,13 @@ class Usage(InFolder):
             with self.subTest(arguments=arguments):
                 self.assertIn(expected, self.message(*arguments))
 
+    def test_help(self):
+        for command in ([], ["summary"], ["find"], ["pci"], ["entries"], ["explain"]):
+            result = run_script(*command, "--help", environment={"COLUMNS": "80"})
+            self.assertEqual((result.status, result.err), (0, ""))
+            self.assertTrue(all(len(line) <= 80 for line in result.out.split("\n")), result.out)
+        self.assertRegex(run_script("--version").out, r"^tablewalk \d+\.\d+\.\d+\n$")
+
     def test_statuses(self):
         self.assertEqual(run(SAMPLE).status, 0)
         self.assertEqual(run(FAULT).status, 1)

@@ -57,8 +57,9 @@ FILE is what acpidump writes, a raw image of memory, or - for standard input.
 """
 
 EPILOG = """\
-Numbers in hexadecimal need no 0x. A raw image is told by --base or --map; without
-them a file of at least 1 MB that is no acpidump text is memory from address 0 on.
+Numbers in hexadecimal need no 0x. A raw image is told by --base or --map;
+without them a file of at least 1 MB that is no acpidump text is memory from
+address 0 on.
 
 A dump with all addresses: sudo acpidump -c off > board.dump
 
