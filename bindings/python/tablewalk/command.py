@@ -66,7 +66,7 @@ A dump with all addresses: sudo acpidump -c off > board.dump
 The board is refused if its root table or its interrupt model is, or if it lists
 an MCFG, HPET or FADT that can not be used.
 
-Exit status: 0 answered, 1 some board refused, 2 wrong usage or unreadable input.
+Exit status: 0 answered, 1 some board refused, 2 wrong usage or bad input.
 """
 
 
