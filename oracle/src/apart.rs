@@ -2,7 +2,6 @@
 //! that may not end or that may read memory that is not there.
 
 use crate::{
-    compare::Counts,
     published::Machine,
     question::{Outcome, Question},
 };
@@ -54,10 +53,11 @@ pub fn budget(microseconds: i64) {
     unsafe { setitimer(VIRTUAL, &timer, std::ptr::null_mut()) };
 }
 
-/// Counts for each worker, in memory that the workers share with this process.
-pub fn shared(workers: usize) -> &'static mut [Counts] {
-    let length = workers * std::mem::size_of::<Counts>();
-    // SAFETY: fresh memory of zeros, which is a value of every count, and never given back.
+/// So many values in memory that the processes started later share with this one. They begin
+/// as zeros, which must be a value of their type.
+pub unsafe fn shared<T>(count: usize) -> &'static mut [T] {
+    let length = count * std::mem::size_of::<T>();
+    // SAFETY: fresh memory of zeros, at the start of a page and never given back.
     unsafe {
         let memory = mmap(
             std::ptr::null_mut(),
@@ -68,7 +68,7 @@ pub fn shared(workers: usize) -> &'static mut [Counts] {
             0,
         );
         assert!(memory as isize != -1, "no memory to share");
-        std::slice::from_raw_parts_mut(memory.cast(), workers)
+        std::slice::from_raw_parts_mut(memory.cast(), count)
     }
 }
 

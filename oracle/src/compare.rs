@@ -10,6 +10,9 @@ use crate::{
     random::Random,
 };
 
+/// How many cases that failed are printed.
+pub const PRINT: usize = 5;
+
 /// What a comparison counts. It stands in memory that processes share.
 #[derive(Clone, Copy, Default)]
 #[repr(C)]
@@ -31,8 +34,12 @@ pub struct Counts {
     pub by_difference: [u64; 32],
     /// The differences that explained the last question about this case.
     pub reason: u64,
-    /// The case that is being asked about, and one more than it when it is done.
-    pub current: u64,
+    /// The next case of a worker, and where its share of the cases ends.
+    pub next: u64,
+    pub end: u64,
+    /// The first cases at which this worker failed, and how many of them are listed here.
+    pub failed: [u64; PRINT],
+    pub listed: usize,
 }
 
 impl Counts {
@@ -52,6 +59,14 @@ impl Counts {
         self.failures += other.failures;
         for (mine, other) in self.by_difference.iter_mut().zip(other.by_difference) {
             *mine += other;
+        }
+    }
+
+    /// Lists a case that failed.
+    pub fn fail_at(&mut self, number: u64) {
+        if self.listed < PRINT {
+            self.failed[self.listed] = number;
+            self.listed += 1;
         }
     }
 }
@@ -252,7 +267,8 @@ fn as_the_crate_tells(question: &Question, answer: &Answer) -> Outcome {
 }
 
 /// Asks all readers one question. `sparingly` says whether a question that will hang or
-/// crash is worth a process of its own this time.
+/// crash is not worth a process of its own this time. Some tests are made at some turns
+/// only: at turn 0 all of them.
 pub fn ask(
     image: &[u8],
     bytes: &[u8],
@@ -260,6 +276,7 @@ pub fn ask(
     question: &Question,
     counts: &mut Counts,
     sparingly: bool,
+    turn: u64,
 ) -> Result<bool, Disagreement> {
     let memory = || Memory { image, ranges };
     let plain = memory().ask(question);
@@ -283,7 +300,7 @@ pub fn ask(
                 }
                 _ => plain.as_ref().map_or(1, |values| values.len()),
             };
-            if short && counts.questions % 8 != 0 {
+            if short && turn % 8 != 0 {
                 continue;
             }
             let room = if short { Some(full - 1) } else { None };
@@ -324,7 +341,7 @@ pub fn ask(
     }
     let told = as_the_crate_tells(question, &plain);
     // The list is held to the plain reading in one question of four, which is often enough.
-    if counts.questions % 4 == 0 {
+    if turn % 4 == 0 {
         let none = Listed {
             bytes,
             memory: memory(),
@@ -386,8 +403,11 @@ pub fn compare(
     let mut disagreements = Vec::new();
     let mut consistent = true;
     counts.reason = 0;
-    for question in questions(case, random) {
-        match ask(&case.image, bytes, &case.ranges, &question, counts, sparingly) {
+    let questions = questions(case, random);
+    let first = random.below(8);
+    for (place, question) in questions.iter().enumerate() {
+        let turn = (first + place) as u64;
+        match ask(&case.image, bytes, &case.ranges, question, counts, sparingly, turn) {
             Ok(same) => consistent &= same,
             Err(disagreement) => {
                 counts.failures += 1;

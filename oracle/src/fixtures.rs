@@ -319,7 +319,7 @@ pub fn check(print: bool) -> u64 {
         let outcome = apart::ask(bytes, &case.ranges, question);
         let why = listed::explain(bytes, &case.image, &case.ranges, question, &outcome, Switches::NONE);
         let mut counts = Counts::default();
-        let compared = ask(&case.image, bytes, &case.ranges, question, &mut counts, false);
+        let compared = ask(&case.image, bytes, &case.ranges, question, &mut counts, false, 0);
         let right = plain == *ours
             && outcome == *crates
             && why == Some(Switches::NONE.with(*number))

@@ -18,10 +18,14 @@ mod shrink;
 mod stored;
 
 use apart::{Arena, End};
-use compare::Counts;
+use compare::{Counts, Disagreement, PRINT};
 use describe::Case;
 use random::Random;
-use std::{process::ExitCode, sync::atomic::Ordering, time::Instant};
+use std::{
+    process::ExitCode,
+    sync::atomic::{AtomicU64, Ordering},
+    time::Instant,
+};
 
 const USAGE: &str = "\
 Usage: oracle/run [--cases N] [--seed S] [--from K] [--workers W] [FILE..]
@@ -31,13 +35,14 @@ Usage: oracle/run [--cases N] [--seed S] [--from K] [--workers W] [FILE..]
 Compares the readers on N generated images (100000), by seed S (1), beginning with
 case K (0), in W processes (as many as there are processors), and before that on the
 images in the files: dumps of acpidump, or what tests/reference/make_cases.py writes.
+What it prints, but for the time, does not depend on the number of processes.
   --case K     compares case K alone and prints every disagreement about it.
   --fixtures   prints the smallest image of each listed difference.";
 
 /// How often a question that hangs or crashes is asked: in one case of so many.
 const ASK_ONE_IN: u64 = 64;
-/// How many disagreements one worker prints.
-const PRINT: u64 = 5;
+/// How many cases a worker takes at once.
+const SHARE: u64 = 64;
 /// What one case may take, in microseconds of computing.
 const BUDGET: i64 = 20_000_000;
 
@@ -92,46 +97,63 @@ fn wishes() -> Result<Wishes, String> {
     Ok(wishes)
 }
 
-/// Compares one case, and prints what nothing explains.
-fn compare_one(case: &Case, name: &str, sparingly: bool, arena: &mut Arena, counts: &mut Counts, random: &mut Random) {
-    let before = counts.failures;
-    let disagreements = compare::compare(case, arena, random, counts, sparingly);
-    if before < PRINT {
-        if let Some(first) = disagreements.first() {
-            println!("{name}: {} disagreements, the first one:", disagreements.len());
-            apart::budget(4 * BUDGET);
-            shrink::print(&shrink::shrink(case, first, arena), first);
-        }
+/// Prints the first disagreement about a case, on the smallest image that still shows it.
+fn print_first(case: &Case, name: &str, disagreements: &[Disagreement], arena: &mut Arena) {
+    if let Some(first) = disagreements.first() {
+        println!("{name}: {} disagreements, the first one:", disagreements.len());
+        apart::budget(4 * BUDGET);
+        shrink::print(&shrink::shrink(case, first, arena), first);
     }
 }
 
-fn generated(seed: u64, number: u64, arena: &mut Arena, counts: &mut Counts) {
+/// Compares one case that is not generated, and prints what nothing explains.
+fn compare_one(case: &Case, name: &str, sparingly: bool, arena: &mut Arena, counts: &mut Counts, random: &mut Random) {
+    let before = counts.failures;
     apart::budget(BUDGET);
-    let case = describe::case(seed, number);
-    // The random arguments of the questions are reproduced by the case number too.
-    let mut random = Random::new(seed ^ 0x5bd1_e995, number);
-    let name = format!("seed {seed} case {number}");
-    compare_one(&case, &name, number / 16 % ASK_ONE_IN != 0, arena, counts, &mut random);
+    let disagreements = compare::compare(case, arena, random, counts, sparingly);
+    if before < PRINT as u64 {
+        print_first(case, name, &disagreements, arena);
+    }
 }
 
-/// Runs through the cases in several processes. One that dies is started again behind the
-/// case at which it died.
+/// Compares one generated case. The random arguments of the questions are reproduced by the
+/// case number too.
+fn generated(seed: u64, number: u64, arena: &mut Arena, counts: &mut Counts) -> (Case, Vec<Disagreement>) {
+    apart::budget(BUDGET);
+    let case = describe::case(seed, number);
+    let mut random = Random::new(seed ^ 0x5bd1_e995, number);
+    let sparingly = number / 16 % ASK_ONE_IN != 0;
+    let disagreements = compare::compare(&case, arena, &mut random, counts, sparingly);
+    (case, disagreements)
+}
+
+/// Runs through the cases in several processes, each of which takes a share of them when it
+/// is done with one. A process that dies is started again behind the case at which it died.
 fn run(wishes: &Wishes, shared: &mut [Counts]) {
-    let workers = shared.len() as u64;
-    let work = |from: u64, counts: &mut Counts| {
+    // SAFETY: zero is a number.
+    let taken = unsafe { &apart::shared::<AtomicU64>(1)[0] };
+    let work = |counts: &mut Counts| {
         let mut arena = Arena::new();
-        let mut number = from;
-        while number < wishes.from + wishes.cases {
-            counts.current = number;
-            generated(wishes.seed, number, &mut arena, counts);
-            number += workers;
+        loop {
+            while counts.next < counts.end {
+                let number = counts.next;
+                counts.next += 1;
+                let (_, disagreements) = generated(wishes.seed, number, &mut arena, counts);
+                if !disagreements.is_empty() {
+                    counts.fail_at(number);
+                }
+            }
+            let share = taken.fetch_add(SHARE, Ordering::Relaxed);
+            if share >= wishes.cases {
+                return 0;
+            }
+            counts.next = wishes.from + share;
+            counts.end = wishes.from + wishes.cases.min(share + SHARE);
         }
-        0
     };
     let mut processes = Vec::new();
-    for (worker, counts) in shared.iter_mut().enumerate() {
-        let from = wishes.from + worker as u64;
-        processes.push(apart::start(|| work(from, counts)));
+    for counts in shared.iter_mut() {
+        processes.push(apart::start(|| work(counts)));
     }
     let mut left = processes.len();
     while left > 0 {
@@ -145,13 +167,34 @@ fn run(wishes: &Wishes, shared: &mut [Counts]) {
             continue;
         }
         let counts = &mut shared[worker];
-        println!(
-            "seed {} case {}: the process ended with {end:?}",
-            wishes.seed, counts.current
-        );
         counts.failures += 1;
-        let from = counts.current + workers;
-        processes[worker] = apart::start(|| work(from, counts));
+        counts.fail_at(counts.next - 1);
+        processes[worker] = apart::start(|| work(counts));
+    }
+}
+
+/// Makes the first cases that failed again, each in a process of its own, and prints them.
+/// Each worker took its cases in their order, so the first ones of all are among them.
+fn print_failed(seed: u64, shared: &[Counts]) {
+    let mut failed: Vec<u64> = shared
+        .iter()
+        .flat_map(|counts| &counts.failed[..counts.listed])
+        .copied()
+        .collect();
+    failed.sort_unstable();
+    for number in failed.into_iter().take(PRINT) {
+        let name = format!("seed {seed} case {number}");
+        let process = apart::start(|| {
+            let mut arena = Arena::new();
+            let (case, disagreements) = generated(seed, number, &mut arena, &mut Counts::default());
+            print_first(&case, &name, &disagreements, &mut arena);
+            disagreements.is_empty() as i32
+        });
+        match apart::wait(process).1 {
+            End::Status(0) => {}
+            End::Status(_) => println!("{name} failed, and not when it was made again"),
+            end => println!("{name}: the process ended with {end:?}"),
+        }
     }
 }
 
@@ -223,7 +266,8 @@ fn main() -> ExitCode {
         return ExitCode::from(!disagreements.is_empty() as u8);
     }
 
-    let shared = apart::shared(wishes.workers + 1);
+    // SAFETY: zeros are counts of nothing.
+    let shared = unsafe { apart::shared::<Counts>(wishes.workers + 1) };
     let (first, workers) = shared.split_at_mut(1);
     for fault in listed::faults() {
         println!("{fault}");
@@ -231,7 +275,6 @@ fn main() -> ExitCode {
     }
     first[0].failures += fixtures::check(false);
     for (number, case) in sample::cases().iter().enumerate() {
-        apart::budget(BUDGET);
         let mut random = Random::new(wishes.seed, number as u64);
         let sparingly = number as u64 % ASK_ONE_IN != 0;
         compare_one(
@@ -251,6 +294,7 @@ fn main() -> ExitCode {
     }
     apart::budget(0);
     run(&wishes, workers);
+    print_failed(wishes.seed, workers);
     let mut total = first[0];
     for counts in workers.iter() {
         total.add(counts);

@@ -19,7 +19,7 @@ use acpi::{
 };
 use std::{
     cell::RefCell,
-    panic::{catch_unwind, panic_any, AssertUnwindSafe},
+    panic::{catch_unwind, resume_unwind, AssertUnwindSafe},
     ptr::NonNull,
     sync::atomic::{AtomicBool, Ordering},
 };
@@ -60,7 +60,7 @@ impl AcpiHandler for Handler<'_> {
         let start = match self.machine.offset(address as u64, size as u64) {
             Some(offset) => &self.machine.bytes[offset],
             None if self.blank && size == BLANK.len() => &BLANK[0],
-            None => panic_any(NoRange),
+            None => resume_unwind(Box::new(NoRange)),
         };
         let start = NonNull::from(start).cast::<T>();
         // SAFETY: the range holds all bytes, and the padding those of a larger type.

@@ -24,6 +24,7 @@ fn still(case: &Case, found: &Disagreement, arena: &mut Arena) -> bool {
         &found.question,
         &mut Counts::default(),
         false,
+        0,
     ) {
         Err(again) => again.who == found.who,
         Ok(_) => false,

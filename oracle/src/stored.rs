@@ -109,8 +109,9 @@ pub fn replay(bytes: &[u8], counts: &mut Counts) -> Result<(), String> {
                 }
                 let bytes = arena.load(&image);
                 let sparingly = counts.cases % crate::ASK_ONE_IN != 0;
+                let turn = counts.cases;
                 if let Err(Disagreement { what, who, .. }) =
-                    compare::ask(&image, bytes, &ranges, &question, counts, sparingly)
+                    compare::ask(&image, bytes, &ranges, &question, counts, sparingly, turn)
                 {
                     counts.failures += 1;
                     println!("{question:x?}: plain {plain:x?}, {who}: {what}");
@@ -178,7 +179,6 @@ pub fn compare_file(path: &str, counts: &mut Counts) -> Result<(), String> {
     let mut arena = Arena::new();
     // The arguments are chosen at random, so a dump is asked about more than once.
     for round in 0..64 {
-        apart::budget(crate::BUDGET);
         let mut random = Random::new(0, round);
         crate::compare_one(&case, path, round != 0, &mut arena, counts, &mut random);
     }

@@ -5,6 +5,7 @@ usage: check.py ARCHIVE KERNEL-ARCHIVE   (from the top of the repository)
 """
 
 import glob
+import os
 import re
 import subprocess
 import sys
@@ -32,8 +33,12 @@ def check(right, what):
         print(f"tests/archive: {what}")
 
 
-def output(*words):
-    return subprocess.run(words, check=True, capture_output=True, text=True).stdout
+# The tools for x86-64 have a longer name where this machine is another one.
+PREFIX = os.environ.get("BINUTILS_PREFIX", "")
+
+
+def output(tool, *words):
+    return subprocess.run([PREFIX + tool, *words], check=True, capture_output=True, text=True).stdout
 
 
 # ---- Declarations

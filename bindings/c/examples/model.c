@@ -1,7 +1,7 @@
 /* Prints the interrupt model of the sample of docs/TABLES.md, section 12. From the top of the
- * repository, after tools/staticlib:
+ * repository, after tools/staticlib --native:
  *
- *     cc -Ibindings/c bindings/c/examples/model.c target/staticlib/libtablewalk.a -o target/model
+ *     cc -Ibindings/c bindings/c/examples/model.c target/native/libtablewalk.a -o target/model
  *     target/model
  */
 #include "tablewalk.h"
