@@ -286,10 +286,10 @@ fn print_result(tallies: &[u64], at: usize, whole: bool) {
 }
 
 // Room for more than the stored file has. A file that fills it up may be cut off, and then its end is missing.
-fn file_buffer() -> [u8; 1310720]
-    ensures { λ r. ⌜ 1310720 ≡ length r ⌝ }
+fn file_buffer() -> [u8; 2097152]
+    ensures { λ r. ⌜ 2097152 ≡ length r ⌝ }
 {
-    [0; 1310720]
+    [0; 2097152]
 }
 
 // Room for a table of 4,096 processors.

@@ -6,7 +6,7 @@ use Rattle.replay_tables.proofs.file_buffer.Statement.{statement}
 use Rattle.replay_tables.proofs.file_buffer.Tie as tie
 
 returns : tie.Need-returns
-returns c = sym (length-replicate {A = ℕ} 1310720 0)
+returns c = sym (length-replicate {A = ℕ} 2097152 0)
 
 pub file-buffer-spec : {M : Type 1} → statement M
 file-buffer-spec = tie.close (tie.spec returns)
