@@ -136,6 +136,7 @@ extern "C" {
 #define TABLEWALK_MADT_ENTRY_WORDS 3u
 #define TABLEWALK_INTERRUPT_MODEL_WORDS 8u
 #define TABLEWALK_MAILBOX_WORDS 1u
+#define TABLEWALK_PLATFORM_WORDS 16u
 #define TABLEWALK_AML_WORDS 2u
 
 /* ---- Sizes of the records of the five lists: words of 32 bits */
@@ -252,6 +253,14 @@ struct tablewalk_model {
     uint64_t interrupt_source_overrides;
     uint64_t nmi_sources;
     uint64_t local_apic_nmi_lines;
+};
+
+struct tablewalk_platform_info {
+    uint64_t power_profile;       /* as TABLEWALK_POWER_PROFILE */
+    struct tablewalk_model model; /* all zero where there is no valid MADT */
+    uint64_t has_pm_timer;        /* 0: there is none, and what follows is zero */
+    struct tablewalk_generic_address pm_timer;
+    uint64_t pm_timer_is_32_bit; /* 0: it has 24 bits */
 };
 
 struct tablewalk_aml {
@@ -424,6 +433,16 @@ uint32_t tablewalk_mailbox(
     const uint8_t *image, size_t image_length, const uint64_t *ranges, size_t ranges_length,
     uint64_t rsdp, uint64_t *out, size_t out_length);
 
+/* What a kernel asks first: power profile, interrupt model and power management timer. A FADT is
+ * needed; a machine without a valid MADT has an unknown model, and one whose FADT has no timer is
+ * answered too: struct tablewalk_platform_info, 16 words. The refusals of the FADT go before those
+ * of the MADT, and these before those of the timer's register.
+ * Answers: 0, 11 (the FADT does not reach as far as that register), 12 (there is no valid FADT), 14,
+ * 15, 16, 17. */
+uint32_t tablewalk_platform(
+    const uint8_t *image, size_t image_length, const uint64_t *ranges, size_t ranges_length,
+    uint64_t rsdp, uint64_t *out, size_t out_length);
+
 /* The AML of the DSDT that the FADT points to: struct tablewalk_aml, 2 words.
  * Answers: 0, 7 to 12, 13 (the address is zero), 17. */
 uint32_t tablewalk_dsdt(
@@ -514,6 +533,7 @@ TABLEWALK_SAME(struct tablewalk_generic_address, TABLEWALK_FADT_REGISTER_WORDS, 
 TABLEWALK_SAME(struct tablewalk_madt, TABLEWALK_MADT_FIXED_WORDS, uint64_t);
 TABLEWALK_SAME(struct tablewalk_madt_entry_place, TABLEWALK_MADT_ENTRY_WORDS, uint64_t);
 TABLEWALK_SAME(struct tablewalk_model, TABLEWALK_INTERRUPT_MODEL_WORDS, uint64_t);
+TABLEWALK_SAME(struct tablewalk_platform_info, TABLEWALK_PLATFORM_WORDS, uint64_t);
 TABLEWALK_SAME(struct tablewalk_aml, TABLEWALK_AML_WORDS, uint64_t);
 TABLEWALK_SAME(struct tablewalk_processor, TABLEWALK_PROCESSOR_WORDS, uint32_t);
 TABLEWALK_SAME(struct tablewalk_io_apic, TABLEWALK_IO_APIC_WORDS, uint32_t);

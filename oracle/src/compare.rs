@@ -4,7 +4,7 @@ use crate::{
     apart::{self, Arena},
     describe::Case,
     listed::{self, Listed, Switches},
-    plain::{self, Memory},
+    plain::Memory,
     published::Machine,
     question::*,
     random::Random,
@@ -79,6 +79,17 @@ pub struct Disagreement {
     pub what: String,
     /// Who is at odds: the library, the list of differences or the crate.
     pub who: &'static str,
+}
+
+/// What a question showed where nothing is left to be explained.
+#[derive(Clone, Copy, Debug, PartialEq)]
+pub enum Seen {
+    /// The crate's answer is the plain reading's.
+    Same,
+    /// The crate has no such question.
+    NoCounterpart,
+    /// These listed differences explain what the crate did.
+    Explained(Switches),
 }
 
 /// The questions about one image. Some arguments are chosen at random, some from what the
@@ -222,17 +233,9 @@ pub fn questions(case: &Case, random: &mut Random) -> Vec<Question> {
             piece.length + 1,
         ]);
         let length = length.min(room);
-        let right: Vec<Ask> = asks
-            .iter()
-            .filter(|ask| table_of(ask).0 == memory_signature(case, piece.offset) || random.once_in(16))
-            .copied()
-            .collect();
-        for ask in right {
-            // Which refusal comes first of a table that is none and of a number that names
-            // nothing is not laid down.
-            let nameless = matches!(ask, Ask::FadtRegister(11..) | Ask::FadtNumber(5..));
-            if !nameless || plain::table(&case.image[piece.offset..piece.offset + length], &ask) != Err(11) {
-                list.push(Question::Table(piece.offset, length, ask));
+        for ask in &asks {
+            if table_of(ask).0 == memory_signature(case, piece.offset) || random.once_in(16) {
+                list.push(Question::Table(piece.offset, length, *ask));
             }
         }
         list.push(Question::Table(piece.offset, length, Ask::Lists(needed)));
@@ -260,8 +263,6 @@ fn as_the_crate_tells(question: &Question, answer: &Answer) -> Outcome {
     match (question, answer) {
         // It does not tell how many entries the root table has.
         (Question::Root(_), Ok(values)) => Outcome::Answer(Ok(values[..5].to_vec())),
-        // Of a model that is not known it tells no more than that.
-        (Question::Of(_, Ask::Model), Ok(values)) if values[0] == 0 => Outcome::Answer(Ok(vec![0; 8])),
         _ => Outcome::Answer(answer.clone()),
     }
 }
@@ -277,7 +278,7 @@ pub fn ask(
     counts: &mut Counts,
     sparingly: bool,
     turn: u64,
-) -> Result<bool, Disagreement> {
+) -> Result<Seen, Disagreement> {
     let memory = || Memory { image, ranges };
     let plain = memory().ask(question);
     counts.questions += 1;
@@ -293,8 +294,6 @@ pub fn ask(
         // A buffer that is one number short is refused with 17 where nothing smaller applies.
         for short in [false, true] {
             let full = match question {
-                // Made of several questions.
-                Question::Platform(_) if short => continue,
                 Question::Ranges | Question::Of(_, Ask::Lists(_)) | Question::Table(_, _, Ask::Lists(_)) if short => {
                     continue
                 }
@@ -320,13 +319,13 @@ pub fn ask(
 
     if !memory().ranges_right() {
         counts.no_counterpart += 1;
-        return Ok(true);
+        return Ok(Seen::NoCounterpart);
     }
     // The crate has no lent buffers.
     if let Question::Of(_, Ask::Lists(_)) = question {
         if plain == Err(17) {
             counts.no_counterpart += 1;
-            return Ok(true);
+            return Ok(Seen::NoCounterpart);
         }
     }
     let foretold = Listed {
@@ -337,7 +336,7 @@ pub fn ask(
     .ask(question);
     if foretold == Outcome::NoCounterpart {
         counts.no_counterpart += 1;
-        return Ok(true);
+        return Ok(Seen::NoCounterpart);
     }
     let told = as_the_crate_tells(question, &plain);
     // The list is held to the plain reading in one question of four, which is often enough.
@@ -377,7 +376,7 @@ pub fn ask(
         if foretold != outcome {
             return Err(disagree("crate", format!("crate {outcome:x?}, foretold {foretold:x?}")));
         }
-        return Ok(true);
+        return Ok(Seen::Same);
     }
     match listed::explain(bytes, image, ranges, question, &outcome, Switches(counts.reason as u32)) {
         Some(set) => {
@@ -385,7 +384,7 @@ pub fn ask(
             for number in set.numbers() {
                 counts.by_difference[number as usize] += 1;
             }
-            Ok(false)
+            Ok(Seen::Explained(set))
         }
         None => Err(disagree("crate", format!("crate {outcome:x?}, foretold {foretold:x?}"))),
     }
@@ -408,7 +407,7 @@ pub fn compare(
     for (place, question) in questions.iter().enumerate() {
         let turn = (first + place) as u64;
         match ask(&case.image, bytes, &case.ranges, question, counts, sparingly, turn) {
-            Ok(same) => consistent &= same,
+            Ok(seen) => consistent &= !matches!(seen, Seen::Explained(_)),
             Err(disagreement) => {
                 counts.failures += 1;
                 disagreements.push(disagreement);

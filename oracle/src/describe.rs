@@ -7,7 +7,7 @@ use crate::{
 };
 
 /// How many cases share one description, each with another damage.
-const BLOCK: u64 = 16;
+pub const BLOCK: u64 = 16;
 
 #[derive(Clone, Copy, PartialEq, Debug)]
 pub enum Role {

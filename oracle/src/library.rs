@@ -25,6 +25,7 @@ extern "C" {
     fn tablewalk_madt_entry(image: *const u8, n: usize, ranges: *const u64, r: usize, rsdp: u64, k: u64, out: *mut u64, o: usize) -> u32;
     fn tablewalk_interrupt_model(image: *const u8, n: usize, ranges: *const u64, r: usize, rsdp: u64, out: *mut u64, o: usize) -> u32;
     fn tablewalk_interrupt_lists(image: *const u8, n: usize, ranges: *const u64, r: usize, rsdp: u64, a: *mut u32, an: usize, b: *mut u32, bn: usize, c: *mut u32, cn: usize, d: *mut u32, dn: usize, e: *mut u32, en: usize) -> u32;
+    fn tablewalk_platform(image: *const u8, n: usize, ranges: *const u64, r: usize, rsdp: u64, out: *mut u64, o: usize) -> u32;
     fn tablewalk_mailbox(image: *const u8, n: usize, ranges: *const u64, r: usize, rsdp: u64, out: *mut u64, o: usize) -> u32;
     fn tablewalk_dsdt(image: *const u8, n: usize, ranges: *const u64, r: usize, rsdp: u64, out: *mut u64, o: usize) -> u32;
     fn tablewalk_ssdt(image: *const u8, n: usize, ranges: *const u64, r: usize, rsdp: u64, k: u64, out: *mut u64, o: usize) -> u32;
@@ -62,7 +63,6 @@ pub fn ask(image: &[u8], ranges: &[u64], question: &Question, room: Option<usize
     let (r, rn) = lend(ranges);
     match *question {
         Question::Entries(_) => Err("there is no such question".into()),
-        Question::Platform(pointer) => platform(image, ranges, pointer),
         Question::Ranges => {
             let number = unsafe { tablewalk_ranges(whole.0, whole.1, r, rn) };
             Ok(if number == 0 { Ok(vec![]) } else { Err(number) })
@@ -83,6 +83,7 @@ pub fn ask(image: &[u8], ranges: &[u64], question: &Question, room: Option<usize
                 Question::Pointer(_) => 4,
                 Question::Root(_) => 6,
                 Question::Search | Question::Entry(..) => 1,
+                Question::Platform(_) => 16,
                 Question::Dsdt(_) | Question::Ssdt(..) => 2,
                 Question::Of(_, ask) | Question::Table(_, _, ask) => values_of(ask),
                 _ => 3,
@@ -109,6 +110,7 @@ pub fn ask(image: &[u8], ranges: &[u64], question: &Question, room: Option<usize
                         } => tablewalk_find(i, n, r, rn, pointer, signature, least, k, o, on),
                         Question::Header(pointer, k) => tablewalk_header(i, n, r, rn, pointer, k, o, on),
                         Question::Dsdt(pointer) => tablewalk_dsdt(i, n, r, rn, pointer, o, on),
+                        Question::Platform(pointer) => tablewalk_platform(i, n, r, rn, pointer, o, on),
                         Question::Ssdt(pointer, k) => tablewalk_ssdt(i, n, r, rn, pointer, k, o, on),
                         Question::Of(p, ask) => match ask {
                             Ask::Hpet => tablewalk_hpet(i, n, r, rn, p, o, on),
@@ -141,37 +143,12 @@ pub fn ask(image: &[u8], ranges: &[u64], question: &Question, room: Option<usize
                                 Ask::Lists(_) => unreachable!("asked above"),
                             }
                         }
-                        Question::Ranges | Question::Entries(_) | Question::Platform(_) => unreachable!("asked above"),
+                        Question::Ranges | Question::Entries(_) => unreachable!("asked above"),
                     }
                 }
             })
         }
     }
-}
-
-/// The crate's platform information, as a caller makes it of the library's questions.
-fn platform(image: &[u8], ranges: &[u64], pointer: u64) -> Result<Answer, String> {
-    let ask = |question| ask(image, ranges, &Question::Of(pointer, question), None);
-    let (profile, fields) = match (ask(Ask::FadtNumber(4))?, ask(Ask::FadtFixed)?) {
-        (Ok(profile), Ok(fields)) => (profile[0], fields),
-        (Err(refusal), _) | (_, Err(refusal)) => return Ok(Err(refusal)),
-    };
-    let model = match ask(Ask::Model)? {
-        Ok(model) => model,
-        Err(12) => vec![0; 8],
-        Err(refusal) => return Ok(Err(refusal)),
-    };
-    let mut values = vec![profile, model[0], model[3]];
-    match ask(Ask::FadtRegister(5))? {
-        Ok(register) => {
-            values.push(1);
-            values.extend(register);
-            values.push(fields[18] / 256 % 2);
-        }
-        Err(13) => values.push(0),
-        Err(refusal) => return Ok(Err(refusal)),
-    }
-    Ok(Ok(values))
 }
 
 fn values_into(values: usize, room: usize, call: impl FnOnce(*mut u64, usize) -> u32) -> Result<Answer, String> {

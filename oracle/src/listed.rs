@@ -11,8 +11,8 @@ use crate::{
 
 /// The numbers that a switch has. 21 has none, since it is about this library's interface,
 /// and 22 none, since it needs a machine with addresses of 32 bits.
-pub const NUMBERS: [u32; 21] = [
-    1, 2, 3, 4, 5, 6, 7, 8, 9, 10, 11, 12, 13, 14, 15, 16, 17, 18, 19, 20, 23,
+pub const NUMBERS: [u32; 22] = [
+    1, 2, 3, 4, 5, 6, 7, 8, 9, 10, 11, 12, 13, 14, 15, 16, 17, 18, 19, 20, 23, 24,
 ];
 
 /// The list that is held to the switches and to docs/DIFFERENCES.md.
@@ -175,8 +175,8 @@ impl<'a> Listed<'a> {
             Question::Platform(pointer) => {
                 let fadt = self.find(pointer, FADT, 116)?;
                 let model = match self.find(pointer, MADT, 44) {
-                    Ok(madt) => self.model(madt)?,
-                    Err(Refused(_)) => None,
+                    Ok(madt) => self.of(madt, &Ask::Model)?,
+                    Err(Refused(_)) => vec![0; 8],
                     Err(end) => return Err(end),
                 };
                 let timer = match self.fadt_register(fadt, plain::TIMER) {
@@ -512,10 +512,15 @@ impl<'a> Listed<'a> {
             }
             Ask::MadtEntry(_) => unreachable!("the crate numbers no entries"),
             Ask::Model => {
+                let (address, old) = (number(table, 36, 4), number(table, 40, 4) % 2);
                 let Some(model) = self.model(place)? else {
-                    return Ok(vec![0; 8]);
+                    return Ok(if self.on.has(24) {
+                        vec![0; 8]
+                    } else {
+                        vec![0, address, old, 0, 0, 0, 0, 0]
+                    });
                 };
-                let mut values = vec![1, model.local_apic_address, number(table, 40, 4) % 2];
+                let mut values = vec![1, model.local_apic_address, old];
                 values.extend(model.lists.iter().map(|list| list.len() as u64));
                 Ok(values)
             }

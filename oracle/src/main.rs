@@ -15,6 +15,7 @@ mod question;
 mod random;
 mod sample;
 mod shrink;
+mod store;
 mod stored;
 
 use apart::{Arena, End};
@@ -30,6 +31,7 @@ use std::{
 const USAGE: &str = "\
 Usage: oracle/run [--cases N] [--seed S] [--from K] [--workers W] [FILE..]
        oracle/run --seed S --case K
+       oracle/run --store IMAGES TABLES [--cases N] [--seed S]
        oracle/run --fixtures
 
 Compares the readers on N generated images (100000), by seed S (1), beginning with
@@ -37,6 +39,8 @@ case K (0), in W processes (as many as there are processors), and before that on
 images in the files: dumps of acpidump, or what tests/reference/make_cases.py writes.
 What it prints, but for the time, does not depend on the number of processes.
   --case K     compares case K alone and prints every disagreement about it.
+  --store      writes questions about the small ones of these images, with their
+               answers, for crates/replay and crates/replay_tables, into two files.
   --fixtures   prints the smallest image of each listed difference.";
 
 /// How often a question that hangs or crashes is asked: in one case of so many.
@@ -53,6 +57,7 @@ struct Wishes {
     workers: usize,
     one: Option<u64>,
     fixtures: bool,
+    store: bool,
     files: Vec<String>,
 }
 
@@ -65,6 +70,7 @@ fn wishes() -> Result<Wishes, String> {
         workers,
         one: None,
         fixtures: false,
+        store: false,
         files: vec![],
     };
     let mut words = std::env::args().skip(1);
@@ -75,6 +81,10 @@ fn wishes() -> Result<Wishes, String> {
         }
         if word == "--fixtures" {
             wishes.fixtures = true;
+            continue;
+        }
+        if word == "--store" {
+            wishes.store = true;
             continue;
         }
         if !word.starts_with('-') {
@@ -93,6 +103,9 @@ fn wishes() -> Result<Wishes, String> {
             "--case" => wishes.one = Some(number),
             _ => return Err(format!("unknown argument '{word}'")),
         }
+    }
+    if wishes.store && wishes.files.len() != 2 {
+        return Err("--store needs the names of two files".into());
     }
     Ok(wishes)
 }
@@ -251,6 +264,15 @@ fn main() -> ExitCode {
 
     if wishes.fixtures {
         return ExitCode::from((fixtures::check(true) > 0) as u8);
+    }
+    if wishes.store {
+        return match store::store(wishes.cases, wishes.seed, &wishes.files) {
+            Ok(()) => ExitCode::SUCCESS,
+            Err(fault) => {
+                eprintln!("oracle/run: nothing was written: {fault}");
+                ExitCode::FAILURE
+            }
+        };
     }
     let started = Instant::now();
     let mut arena = Arena::new();

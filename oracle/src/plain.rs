@@ -331,8 +331,8 @@ impl<'a> Memory<'a> {
             Question::Platform(pointer) => {
                 let fadt = self.slice(self.find(pointer, Some(FADT), 116, 0)?);
                 let model = match self.find(pointer, Some(MADT), 44, 0) {
-                    Ok(madt) => model(self.slice(madt))?,
-                    Err(_) => None,
+                    Ok(madt) => table(self.slice(madt), &Ask::Model)?,
+                    Err(_) => vec![0; 8],
                 };
                 let timer = match fadt_register(fadt, TIMER) {
                     Ok(register) => Some(register),
@@ -359,15 +359,17 @@ impl<'a> Memory<'a> {
     }
 }
 
-/// The platform information that a FADT, a model and a timer make.
-pub fn platform_values(fadt: &[u8], model: Option<Model>, timer: Option<Vec<u64>>) -> Vec<u64> {
+/// The platform information that a FADT, the numbers of a model and a timer make.
+pub fn platform_values(fadt: &[u8], model: Vec<u64>, timer: Option<Vec<u64>>) -> Vec<u64> {
     let mut values = vec![fadt[45] as u64];
-    values.push(model.is_some() as u64);
-    values.push(model.map_or(0, |model| model.lists[0].len() as u64));
-    values.push(timer.is_some() as u64);
-    if let Some(register) = timer {
-        values.extend(register);
-        values.push(number(fadt, 112, 4) / 256 % 2);
+    values.extend(model);
+    match timer {
+        Some(register) => {
+            values.push(1);
+            values.extend(register);
+            values.push(number(fadt, 112, 4) / 256 % 2);
+        }
+        None => values.extend([0; 7]),
     }
     values
 }
@@ -559,7 +561,7 @@ pub fn hpet_values(table: &[u8]) -> Vec<u64> {
 // Section 10: FADT.
 
 /// Offsets and sizes of the plain fields, in the order in which they are answered.
-const FADT_FIXED: [(usize, usize); 19] = [
+pub const FADT_FIXED: [(usize, usize); 19] = [
     (46, 2),
     (48, 4),
     (52, 1),

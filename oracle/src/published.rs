@@ -10,7 +10,7 @@ use acpi::{
     mcfg::Mcfg,
     platform::{
         interrupt::{LocalInterruptLine, NmiProcessor, Polarity, TriggerMode},
-        Processor, ProcessorState,
+        Processor, ProcessorInfo, ProcessorState,
     },
     rsdp::Rsdp,
     sdt::{SdtHeader, Signature},
@@ -300,16 +300,15 @@ impl<'a> Machine<'a> {
             Question::Entries(pointer) => Some(self.entries(pointer)),
             Question::Platform(pointer) => Some(self.tables(pointer).and_then(|tables| {
                 let platform = tables.platform_info()?;
-                let known = matches!(platform.interrupt_model, InterruptModel::Apic(_));
-                assert_eq!(known, platform.processor_info.is_some(), "a known model has processors");
-                let processors = platform
-                    .processor_info
-                    .map_or(0, |info| 1 + info.application_processors.len());
-                let mut values = vec![profile_value(platform.power_profile), known as u64, processors as u64];
-                values.push(platform.pm_timer.is_some() as u64);
-                if let Some(timer) = platform.pm_timer {
-                    values.extend(generic_values(timer.base));
-                    values.push(timer.supports_32bit as u64);
+                let mut values = vec![profile_value(platform.power_profile)];
+                values.extend(model_values(&platform.interrupt_model, &platform.processor_info).0);
+                match platform.pm_timer {
+                    Some(timer) => {
+                        values.push(1);
+                        values.extend(generic_values(timer.base));
+                        values.push(timer.supports_32bit as u64);
+                    }
+                    None => values.extend([0; 7]),
                 }
                 Ok(Ok(values))
             })),
@@ -532,52 +531,8 @@ impl<'a> Machine<'a> {
             Ask::Model | Ask::Lists(_) => {
                 let madt = tables.find_table::<Madt>()?;
                 let (model, processors) = madt.get().parse_interrupt_model_in(std::alloc::Global)?;
-                let InterruptModel::Apic(apic) = model else {
-                    assert!(processors.is_none(), "a model that is not known has no processors");
-                    return Ok(Ok(vec![0; if *ask == Ask::Model { 8 } else { 5 }]));
-                };
-                let processors = processors.expect("a known model has processors");
-                let mut lists: [Vec<u64>; 5] = Default::default();
-                lists[0].extend(processor_values(&processors.boot_processor, 0));
-                for (place, processor) in processors.application_processors.iter().enumerate() {
-                    lists[0].extend(processor_values(processor, place + 1));
-                }
-                for controller in apic.io_apics.iter() {
-                    lists[1].extend([
-                        controller.id as u64,
-                        controller.address as u64,
-                        controller.global_system_interrupt_base as u64,
-                    ]);
-                }
-                for one in apic.interrupt_source_overrides.iter() {
-                    lists[2].extend([
-                        one.isa_source as u64,
-                        one.global_system_interrupt as u64,
-                        flags_value(one.polarity, one.trigger_mode),
-                    ]);
-                }
-                for source in apic.nmi_sources.iter() {
-                    lists[3].extend([
-                        source.global_system_interrupt as u64,
-                        flags_value(source.polarity, source.trigger_mode),
-                    ]);
-                }
-                for line in apic.local_apic_nmi_lines.iter() {
-                    let processor = match line.processor {
-                        NmiProcessor::All => 0xffff_ffff,
-                        NmiProcessor::ProcessorUid(uid) => uid as u64,
-                    };
-                    let number = match line.line {
-                        LocalInterruptLine::Lint0 => 0,
-                        LocalInterruptLine::Lint1 => 1,
-                    };
-                    lists[4].extend([processor, number]);
-                }
+                let (values, lists) = model_values(&model, &processors);
                 if *ask == Ask::Model {
-                    let mut values = vec![1, apic.local_apic_address, apic.also_has_legacy_pics as u64];
-                    for (list, size) in lists.iter().zip([3, 3, 3, 2, 2]) {
-                        values.push((list.len() / size) as u64);
-                    }
                     return Ok(Ok(values));
                 }
                 let mut values = Vec::new();
@@ -593,6 +548,60 @@ impl<'a> Machine<'a> {
             }
         }
     }
+}
+
+/// Whether the model is known, its address, whether there are old controllers and how many
+/// records each list has, and the five lists. A model that is not known tells none of it.
+fn model_values(
+    model: &InterruptModel<std::alloc::Global>,
+    processors: &Option<ProcessorInfo<std::alloc::Global>>,
+) -> (Vec<u64>, [Vec<u64>; 5]) {
+    let mut lists: [Vec<u64>; 5] = Default::default();
+    let InterruptModel::Apic(apic) = model else {
+        assert!(processors.is_none(), "a model that is not known has no processors");
+        return (vec![0; 8], lists);
+    };
+    let processors = processors.as_ref().expect("a known model has processors");
+    lists[0].extend(processor_values(&processors.boot_processor, 0));
+    for (place, processor) in processors.application_processors.iter().enumerate() {
+        lists[0].extend(processor_values(processor, place + 1));
+    }
+    for controller in apic.io_apics.iter() {
+        lists[1].extend([
+            controller.id as u64,
+            controller.address as u64,
+            controller.global_system_interrupt_base as u64,
+        ]);
+    }
+    for one in apic.interrupt_source_overrides.iter() {
+        lists[2].extend([
+            one.isa_source as u64,
+            one.global_system_interrupt as u64,
+            flags_value(one.polarity, one.trigger_mode),
+        ]);
+    }
+    for source in apic.nmi_sources.iter() {
+        lists[3].extend([
+            source.global_system_interrupt as u64,
+            flags_value(source.polarity, source.trigger_mode),
+        ]);
+    }
+    for line in apic.local_apic_nmi_lines.iter() {
+        let processor = match line.processor {
+            NmiProcessor::All => 0xffff_ffff,
+            NmiProcessor::ProcessorUid(uid) => uid as u64,
+        };
+        let number = match line.line {
+            LocalInterruptLine::Lint0 => 0,
+            LocalInterruptLine::Lint1 => 1,
+        };
+        lists[4].extend([processor, number]);
+    }
+    let mut values = vec![1, apic.local_apic_address, apic.also_has_legacy_pics as u64];
+    for (list, size) in lists.iter().zip([3, 3, 3, 2, 2]) {
+        values.push((list.len() / size) as u64);
+    }
+    (values, lists)
 }
 
 fn fadt_fixed(fadt: &Fadt) -> Vec<u64> {

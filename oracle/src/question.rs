@@ -47,9 +47,9 @@ pub enum Question {
     /// All entries of the MADT of kinds below 17, which is what the crate lists: kind,
     /// offset in the table and length of each.
     Entries(u64),
-    /// What the crate calls platform information: power profile; whether the model is known
-    /// and how many processors it has; whether there is a timer, its register, and whether
-    /// it has 32 bits.
+    /// What the crate calls platform information: the power profile; the eight numbers of the
+    /// interrupt model, all zero without a MADT; whether there is a timer, the five numbers of
+    /// its register, and whether it has 32 bits, all zero where there is none.
     Platform(u64),
 }
 

@@ -296,6 +296,7 @@ static void ask_sample(const uint8_t *sample)
     for (k = 0; k <= TABLEWALK_POWER_PROFILE; k++) {
         REFUSED(TABLEWALK_NO_VALID_TABLE, tablewalk_fadt_number(IMAGE, rsdp, k, OUT));
     }
+    REFUSED(TABLEWALK_NO_VALID_TABLE, tablewalk_platform(IMAGE, rsdp, OUT));
     REFUSED(TABLEWALK_NO_VALID_TABLE, tablewalk_dsdt(IMAGE, rsdp, OUT));
     REFUSED(TABLEWALK_NO_VALID_TABLE, tablewalk_ssdt(IMAGE, rsdp, 0, OUT));
     REFUSED(TABLEWALK_NONE, tablewalk_mcfg_entry(IMAGE, rsdp, 1, OUT));
@@ -472,6 +473,10 @@ static void ask_board(void)
     REFUSED(TABLEWALK_NONE, tablewalk_fadt_register(IMAGE, rsdp, TABLEWALK_SLEEP_STATUS + 1, OUT));
     REFUSED(TABLEWALK_NONE, tablewalk_fadt_register(IMAGE, rsdp, UINT32_MAX, OUT));
     REFUSED(TABLEWALK_NONE, tablewalk_fadt_number(IMAGE, rsdp, TABLEWALK_POWER_PROFILE + 1, OUT));
+    /* A slice that is no FADT is refused as such, whatever number is asked. */
+    REFUSED(TABLEWALK_TABLE_TOO_SHORT, tablewalk_table_fadt_register(fadt, 115, TABLEWALK_SLEEP_STATUS + 1, OUT));
+    REFUSED(TABLEWALK_TABLE_TOO_SHORT, tablewalk_table_fadt_number(fadt, 115, TABLEWALK_POWER_PROFILE + 1, OUT));
+    REFUSED(TABLEWALK_NONE, tablewalk_table_fadt_number(fadt, BOARD_FADT_LENGTH, TABLEWALK_POWER_PROFILE + 1, OUT));
     /* A FADT that ends in the middle of its sleep registers. */
     fadt[4] = 255;
     fadt[5] = 0;
@@ -523,6 +528,57 @@ static void ask_board(void)
     free(hpet);
 }
 
+/* Power profile, model and timer, of the board and of boards on which one of them is not there or is wrong. */
+static void ask_platform(void)
+{
+    uint8_t bytes[BOARD_LENGTH];
+    uint64_t where[6];
+    uint8_t *image, *fadt, *madt;
+    uint64_t *ranges;
+    const size_t image_length = BOARD_LENGTH, ranges_length = 6;
+    const uint64_t rsdp = BOARD_ROOT_POINTER;
+    struct tablewalk_platform_info info;
+
+    build_board(bytes, where);
+    image = (uint8_t *)exactly(bytes, sizeof bytes);
+    ranges = (uint64_t *)exactly(where, sizeof where);
+    fadt = image + BOARD_FADT;
+    madt = image + BOARD_MADT;
+
+    FOUND(tablewalk_platform(IMAGE, rsdp, OUT), 2, 1, UINT64_C(0x100000000), 0, 3, 2, 1, 1, 2, 1, 1, 32, 0, 0, 0x608, 1);
+    check(tablewalk_platform(IMAGE, rsdp, TABLEWALK_OUT(info)) == TABLEWALK_FOUND && info.power_profile == 2
+              && info.model.processors == 3 && info.has_pm_timer == 1 && info.pm_timer.address == 0x608
+              && info.pm_timer_is_32_bit == 1,
+          "struct tablewalk_platform_info", __LINE__);
+    fadt[113] = 0;
+    fix_sum(fadt, BOARD_FADT_LENGTH, 9);
+    FOUND(tablewalk_platform(IMAGE, rsdp, OUT), 2, 1, UINT64_C(0x100000000), 0, 3, 2, 1, 1, 2, 1, 1, 32, 0, 0, 0x608, 0);
+
+    /* A timer of another length is none, and a MADT that does not sum to 0 is none. */
+    fadt[91] = 3;
+    fix_sum(fadt, BOARD_FADT_LENGTH, 9);
+    FOUND(tablewalk_platform(IMAGE, rsdp, OUT), 2, 1, UINT64_C(0x100000000), 0, 3, 2, 1, 1, 2, 0, 0, 0, 0, 0, 0, 0);
+    madt[9]++;
+    FOUND(tablewalk_platform(IMAGE, rsdp, OUT), 2, 0, 0, 0, 0, 0, 0, 0, 0, 0, 0, 0, 0, 0, 0, 0);
+
+    /* A timer in an unknown space, without a MADT, with one, and behind a wrong entry of one. */
+    fadt[91] = 4;
+    fadt[208] = 11;
+    fadt[212] = 1;
+    fix_sum(fadt, BOARD_FADT_LENGTH, 9);
+    REFUSED(TABLEWALK_GENERIC_ADDRESS, tablewalk_platform(IMAGE, rsdp, OUT));
+    madt[9]--;
+    REFUSED(TABLEWALK_GENERIC_ADDRESS, tablewalk_platform(IMAGE, rsdp, OUT));
+    madt[45] = 0;
+    fix_sum(madt, BOARD_MADT_LENGTH, 9);
+    REFUSED(TABLEWALK_INTERRUPT_ENTRY, tablewalk_platform(IMAGE, rsdp, OUT));
+    fadt[9]++;
+    REFUSED(TABLEWALK_NO_VALID_TABLE, tablewalk_platform(IMAGE, rsdp, OUT));
+
+    free(image);
+    free(ranges);
+}
+
 /* The structs of the header, lent as buffers. */
 static void ask_with_structs(const uint8_t *image)
 {
@@ -563,6 +619,7 @@ int main(int argc, char **argv)
     ask_sample(sample);
     ask_with_structs(sample);
     ask_board();
+    ask_platform();
     printf("%u passed, %u failed\n", passed, failed);
     return failed != 0;
 }

@@ -38,6 +38,8 @@ def hpet(table):
     answer, values = reading.hpet(table)
     if answer:
         return answer, []
+    # The library has one number for every page protection that is none of the three.
+    values[-1] = min(values[-1], 3)
     return 0, [int.from_bytes(table[36:40], "little")] + values
 
 
@@ -63,6 +65,16 @@ def fadt_number(table, which):
     return answer or 13, []
 
 
+def interrupt_model(table):
+    answer, values = reading.madt_model(table)
+    if answer or values[0]:
+        return answer, values
+    # The reading says nothing more of an unknown model; docs/TABLES.md, section 11, has
+    # the address at offset 36 and the old controllers told all the same.
+    address, _, old_controllers = reading.madt_fixed(table)[1]
+    return 0, [0, address, old_controllers] + [0] * 5
+
+
 TABLE = {
     "hpet": hpet,
     "mcfg_count": reading.mcfg_count,
@@ -73,7 +85,7 @@ TABLE = {
     "fadt_number": fadt_number,
     "madt_fixed": reading.madt_fixed,
     "madt_entry": reading.madt_entry,
-    "interrupt_model": reading.madt_model,
+    "interrupt_model": interrupt_model,
     "interrupt_lists": reading.madt_lists,
     "mailbox": reading.madt_mailbox,
 }
@@ -88,6 +100,27 @@ def dsdt(image, ranges, rsdp):
     if answer:
         return answer, []
     return 0, [values[0] + 36, values[2] - 36]
+
+
+def platform(image, ranges, rsdp):
+    """FADT, then the MADT, whose absence is no refusal, then the timer of the FADT, which
+    may be missing."""
+    answer, profile = through_image("fadt_number")(image, ranges, rsdp, 4)
+    if answer:
+        return answer, []
+    answer, _ = reading.find(image, ranges, rsdp, int.from_bytes(b"APIC", "little"), 44)
+    model = [0] * 8
+    if answer == 0:
+        answer, model = through_image("interrupt_model")(image, ranges, rsdp)
+        if answer:
+            return answer, []
+    answer, register = through_image("fadt_register")(image, ranges, rsdp, reading.TIMER)
+    if answer == reading.NO_SUCH_ADDRESS:
+        return 0, profile + model + [0] * 7
+    if answer:
+        return answer, []
+    _, fixed = through_image("fadt_fixed")(image, ranges, rsdp)
+    return 0, profile + model + [1] + register + [fixed[-1] // 256 % 2]
 
 
 def ssdt(image, ranges, rsdp, n):
@@ -123,6 +156,7 @@ IMAGE = {
     "entry": reading.root_entry,
     "find": reading.find_nth,
     "header": reading.nth_table,
+    "platform": platform,
     "dsdt": dsdt,
     "ssdt": ssdt,
 }

@@ -4,7 +4,8 @@
     python3 many.py --time FOLDER        time ./tablewalk and acpixtract on them
 
 The boards differ in processors, controllers, windows and tables, and one in ten has
-a fault. The same seed writes the same files.
+a fault. The same seed writes the same files. What was made is known of each board, so
+that test_many.py can hold a summary to it.
 """
 
 import random
@@ -13,12 +14,29 @@ import shutil
 import subprocess
 import sys
 import time
+from dataclasses import dataclass
 from pathlib import Path
+from typing import List, Optional, Tuple
 
 from make_examples import dump_text
 
 ROOT = Path(__file__).resolve().parents[2]
 SEED = 4000
+
+
+@dataclass
+class Board:
+    """A board as it was made: its blocks, what a summary must count, and the fault."""
+
+    blocks: List[Tuple[str, int, bytes]]
+    maker: str
+    table_id: str
+    tables: int
+    processors: int
+    controllers: int
+    windows: Optional[int]
+    # The block in which a bit was turned, and the place of its byte.
+    fault: Optional[Tuple[str, int]] = None
 
 
 def little(value, size):
@@ -34,20 +52,23 @@ def table(signature, body, maker, revision=1):
 
 def madt(choose, maker):
     body = little(0xFEE00000, 4) + little(choose.randrange(2), 4)
-    for n in range(choose.choice([1, 2, 4, 4, 8, 8, 16, 64])):
+    processors = choose.choice([1, 2, 4, 4, 8, 8, 16, 64])
+    for n in range(processors):
         body += bytes([0, 8, n, 2 * n, choose.choice([1, 1, 1, 0]) if n else 1, 0, 0, 0])
-    for n in range(choose.choice([1, 1, 1, 2])):
+    controllers = choose.choice([1, 1, 1, 2])
+    for n in range(controllers):
         body += bytes([1, 12, n, 0]) + little(0xFEC00000 + 0x1000 * n, 4) + little(24 * n, 4)
     body += bytes([2, 10, 0, 0, 2, 0, 0, 0, 0, 0, 2, 10, 0, 9, 9, 0, 0, 0, 13, 0])
     body += bytes([4, 6, 0xFF, 5, 0, 1])
-    return table(b"APIC", body, maker, 4)
+    return table(b"APIC", body, maker, 4), processors, controllers
 
 
 def mcfg(choose, maker):
     body = bytes(8)
-    for n in range(choose.choice([1, 1, 1, 2])):
+    windows = choose.choice([1, 1, 1, 2])
+    for n in range(windows):
         body += little(0xB0000000 + (n << 28), 8) + little(n, 2) + bytes([0, 255]) + bytes(4)
-    return table(b"MCFG", body, maker)
+    return table(b"MCFG", body, maker), windows
 
 
 def fadt(maker, dsdt):
@@ -66,13 +87,16 @@ def hpet(maker):
 
 
 def a_board(choose):
-    """The blocks of one board."""
+    """One board."""
     maker = b"BOARD" + bytes([65 + choose.randrange(26)])
     maker += b"REV-%04d" % choose.randrange(10000)
     base = 0x7F000000 + 0x1000 * choose.randrange(4096)
-    tables = [madt(choose, maker)]
+    interrupts, processors, controllers = madt(choose, maker)
+    tables = [interrupts]
+    windows = None
     if choose.random() < 0.9:
-        tables.append(mcfg(choose, maker))
+        data, windows = mcfg(choose, maker)
+        tables.append(data)
     if choose.random() < 0.7:
         tables.append(hpet(maker))
     for _ in range(choose.randrange(6)):
@@ -93,20 +117,29 @@ def a_board(choose):
     blocks = [("RSDP", base, bytes(pointer)), ("XSDT", base + 0x40, root)]
     blocks += [(data[:4].decode(), address, data) for address, data in zip(addresses, tables)]
     blocks.append(("DSDT", base + 0x100000, dsdt))
+    board = Board(blocks, maker[:6].decode(), maker[6:].decode(), len(tables), processors,
+                  controllers, windows)
     if choose.random() < 0.1:
         at = choose.randrange(len(blocks) - 1)
         name, address, data = blocks[at]
         damaged = bytearray(data)
-        damaged[choose.randrange(len(damaged))] ^= 1 << choose.randrange(8)
+        place = choose.randrange(len(damaged))
+        damaged[place] ^= 1 << choose.randrange(8)
         blocks[at] = (name, address, bytes(damaged))
-    return blocks
+        board.fault = (name, place)
+    return board
 
 
 def write(folder, count):
+    """Write so many dumps, and give for each its file and the board."""
     folder.mkdir(parents=True, exist_ok=True)
+    boards = []
     for n in range(count):
-        choose = random.Random(SEED + n)
-        (folder / f"board-{n:04}.dump").write_text(dump_text(a_board(choose)), encoding="ascii")
+        board = a_board(random.Random(SEED + n))
+        path = folder / f"board-{n:04}.dump"
+        path.write_text(dump_text(board.blocks), encoding="ascii")
+        boards.append((path, board))
+    return boards
 
 
 def timed(title, command, files=None):

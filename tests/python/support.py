@@ -65,11 +65,17 @@ def run_script(*arguments, data=None, environment=None, folder=ROOT):
     return Result(done.returncode, done.stdout.decode(), done.stderr.decode())
 
 
+def temporary_folder():
+    """A folder in memory, where there is one: some tests write a file thousands of times."""
+    memory = "/dev/shm"
+    return tempfile.TemporaryDirectory(dir=memory if os.access(memory, os.W_OK) else None)
+
+
 class InFolder(unittest.TestCase):
     """A test with a folder of its own."""
 
     def setUp(self):
-        holder = tempfile.TemporaryDirectory()
+        holder = temporary_folder()
         self.addCleanup(holder.cleanup)
         self.folder = Path(holder.name)
 

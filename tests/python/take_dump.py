@@ -41,13 +41,16 @@ def save_memory(command, megabytes, wait):
 
 
 def root_pointers(memory):
-    """Every place in memory where a root pointer with right sums stands."""
+    """Every place in memory where a root pointer with right sums stands. Firmware may
+    leave one of each revision, of which a system takes the later; so do we."""
+    found = []
     at = memory.find(b"RSD PTR ")
     while at >= 0:
-        if at % 16 == 0 and sum(memory[at:at + 20]) % 256 == 0:
+        if at % 4 == 0 and sum(memory[at:at + 20]) % 256 == 0:
             if memory[at + 15] == 0 or sum(memory[at:at + 36]) % 256 == 0:
-                yield at
+                found.append(at)
         at = memory.find(b"RSD PTR ", at + 1)
+    return sorted(found, key=lambda place: (memory[place + 15] == 0, place))
 
 
 def blocks_from(memory, pointer):
@@ -65,11 +68,11 @@ def blocks_from(memory, pointer):
         table = number(memory, at, width)
         yield block_at(memory, table)
         if memory[table:table + 4] == b"FACP":
-            # Zero in the wide field means that the narrow one counts.
-            facs = number(memory, table + 36, 4)
-            dsdt = number(memory, table + 40, 4)
-            yield block_at(memory, facs)
-            yield block_at(memory, dsdt)
+            # FACS and DSDT, by their wide fields if there are such and these are not zero.
+            wide = number(memory, table + 4, 4) >= 148 and memory[table + 8] >= 2
+            for narrow_at, wide_at in ((36, 132), (40, 140)):
+                found = number(memory, table + wide_at, 8) if wide else 0
+                yield block_at(memory, found or number(memory, table + narrow_at, 4))
 
 
 def block_at(memory, address):

@@ -8,13 +8,14 @@ import json
 import random
 import unittest
 
-from support import dumps, library, needs_library
+from support import EXAMPLES, dumps, library, needs_library
 
 from double import Double
 import sample
 
-from tablewalk import Image
+from tablewalk import Image, Refused
 from tablewalk.dump import layout_of_acpidump
+from tablewalk.library import OUT32, OUT64, SIZE, SLICES, TABLE_QUESTIONS, U32
 from tablewalk.report import board
 
 SEED = 977
@@ -27,6 +28,14 @@ def fixed(data, offset, length):
     return bytes(image)
 
 
+def platform(image):
+    """What a kernel asks first, or the number that refuses it; a report has less of it."""
+    try:
+        return image.platform()
+    except Refused as refused:
+        return refused.number
+
+
 @needs_library
 class Agreement(unittest.TestCase):
     def setUp(self):
@@ -34,10 +43,8 @@ class Agreement(unittest.TestCase):
         self.double = Double()
 
     def same(self, data, ranges, rsdp):
-        ours, theirs = (
-            json.dumps(board("board", Image(data, ranges, rsdp, backend)))
-            for backend in (self.library, self.double)
-        )
+        images = [Image(data, ranges, rsdp, backend) for backend in (self.library, self.double)]
+        ours, theirs = ((json.dumps(board("board", image)), platform(image)) for image in images)
         self.assertEqual(ours, theirs, data.hex())
 
     def test_examples(self):
@@ -83,6 +90,41 @@ class Agreement(unittest.TestCase):
                 for a, b in zip(ends, ends[1:])
             ]
             self.same(data, ranges, sample.BASE)
+
+    def test_tables_by_themselves(self):
+        # Each beginning of a table, with the length that it states and with its own; and
+        # numbers of entries, registers and fields that there are, or that nothing has.
+        image = Image.from_acpidump((EXAMPLES / "qemu-q35-seabios.dump").read_bytes())
+        for signature in ("APIC", "MCFG", "HPET", "FACP"):
+            table = image.view(image.find(signature)).data
+            for end in [*range(len(table) + 1), len(table) + 24]:
+                part = table[:end].ljust(end, b"\0")
+                self.same_about(part)
+                self.same_about(part[:4] + end.to_bytes(4, "little")[:max(0, end - 4)] + part[8:])
+
+    def same_about(self, table):
+        for question, parameters in TABLE_QUESTIONS.items():
+            kinds = [kind for _, kind in parameters]
+            for value in ASKED if U32 in kinds or SIZE in kinds else [0]:
+                ours, theirs = (
+                    self.answer(backend, question, kinds, table, value)
+                    for backend in (self.library, self.double)
+                )
+                self.assertEqual(ours, theirs, f"{question} {value}: {table.hex()}")
+
+    @staticmethod
+    def answer(backend, question, kinds, table, value):
+        """The number of an answer, and all that the lent buffers hold then."""
+        buffers = [
+            (SLICES[kind]._type_ * 40)(*range(100, 140)) if kind in (OUT64, OUT32) else value
+            for kind in kinds
+        ]
+        number = backend.ask(f"tablewalk_table_{question}", [table, *buffers])
+        return number, [list(b) for b in buffers if not isinstance(b, int)]
+
+
+# Numbers of entries, registers and fields.
+ASKED = (*range(13), 255, 0xFFFFFFFF)
 
 
 if __name__ == "__main__":

@@ -11,13 +11,17 @@ from support import (
     EXAMPLES,
     ROOT,
     InFolder,
+    Result,
     dumps,
     needs_library,
     run,
     run_script,
 )
 
+import make_examples
 import sample
+
+from tablewalk.library import SHARED
 
 SAMPLE = "examples/sample.dump"
 FAULT = "examples/entry-of-length-zero.dump"
@@ -45,7 +49,14 @@ class Usage(InFolder):
             (["pci", "10000:00:00.0", SAMPLE], "expected SEG:BUS:DEV.FN"),
             (["explain", "19"], "0 to 18"),
             (["explain", "x"], "0 to 18"),
+            (["explain", "1", "2"], "unrecognized arguments: 2"),
             (["summary"], "FILE"),
+            (["summary", "--csv", "--json", SAMPLE], "--csv and --json: expected only one"),
+            (["--json", "--json-lines", SAMPLE], "--json and --json-lines: expected only one"),
+            (["-", "-"], "expected only once"),
+            (["--map", "-", "-"], "expected only once"),
+            (["find", "\udcff\udcff\udcff\udcff", SAMPLE], "expected four characters"),
+            ([""], "No such file"),
         ):
             with self.subTest(arguments=arguments):
                 self.assertIn(expected, self.message(*arguments))
@@ -65,6 +76,38 @@ class Usage(InFolder):
         self.assertEqual(run("find", "HPET", SAMPLE).status, 1)
         self.assertEqual(run("pci", "0000:40:00.0", SAMPLE).status, 1)
         self.assertEqual(run("explain", "15").status, 0)
+
+    def test_find(self):
+        self.assertEqual(
+            run("find", "MCFG", SAMPLE).out,
+            "MCFG at 0x7ff00100, 60 bytes, offset 0xb0 in the image\n",
+        )
+        several = run("find", "MCFG", SAMPLE, FAULT).out.split("\n")
+        self.assertEqual([line.split(":")[0] for line in several[:2]], [SAMPLE, FAULT])
+        self.assertIn("no entry leads to a table HPET", run("find", "HPET", SAMPLE).out)
+        # Not in the root table, so it is said who knows.
+        self.assertIn("the FADT says where it is", run("find", "DSDT", SAMPLE).out)
+
+    def test_pci(self):
+        self.assertEqual(run("pci", "0000:0c:03.1", SAMPLE).out, "0000:0c:03.1 at 0xb0c19000\n")
+        self.assertEqual(run("pci", "0c:3.1", SAMPLE).out, "0000:0c:03.1 at 0xb0c19000\n")
+        result = run("pci", "0000:0c:20.0", SAMPLE)
+        self.assertEqual(result.status, 1)
+        self.assertTrue(result.out.startswith("13: there is no such address"))
+
+    def test_entries_of_another_model(self):
+        # A GIC board: its entries are refused, and shown as they stand.
+        entries = bytes([11, 20]) + bytes(18) + bytes([12, 24]) + bytes(22) + bytes([13, 1, 9])
+        path = self.file("gic", dump_of(with_madt(entries)))
+        result = run("entries", path)
+        self.assertEqual(result.status, 1)
+        self.assertIn("    0x2c    11      20  GIC CPU interface\n", result.out)
+        self.assertIn("    0x40    12      24  GIC distributor\n", result.out)
+        self.assertIn("  then: 0d 01 09\n", result.out)
+        self.assertIn("(MADT entry 0 at offset 0x2c)", result.out)
+        data = json.loads(run("entries", "--json", path).out)
+        self.assertEqual([e["kind"] for e in data["unread"]], [11, 12])
+        self.assertEqual((data["entries"], data["rest"]), ([], "0d 01 09"))
 
     def test_the_others_are_still_done(self):
         result = run(SAMPLE, "nothere.dump", FAULT)
@@ -144,6 +187,106 @@ class Usage(InFolder):
         self.assertIn("expected files", run("summary", str(self.folder)).err)
 
 
+def with_madt(entries):
+    """The sample's blocks, with other entries in its MADT."""
+    blocks = make_examples.blocks_of(sample.sample_image()[0])
+    changed = []
+    for name, address, data in blocks:
+        if name == "APIC":
+            data = bytearray(data[:44] + entries)
+            data[4:8] = len(data).to_bytes(4, "little")
+            data[9] = (data[9] - sum(data)) % 256
+        # Far apart, so that a block may grow.
+        changed.append((name, address, bytes(data)))
+    return changed
+
+
+def dump_of(blocks):
+    return make_examples.dump_text(blocks)
+
+
+class Dumps(InFolder):
+    """The forms that an acpidump text may have."""
+
+    def setUp(self):
+        super().setUp()
+        self.blocks = make_examples.blocks_of(sample.sample_image()[0])
+        self.plain = self.report(dump_of(self.blocks))
+        self.assertIn("2 processors", self.plain)
+
+    def report(self, text, status=0):
+        result = run(self.file("board", text))
+        self.assertEqual((result.status, result.err), (status, ""))
+        return result.out
+
+    def test_root_pointer_by_name_or_by_its_bytes(self):
+        text = dump_of(self.blocks)
+        for name in ("RSD PTR ", "RSD PTR", "RSDP", "RSD ", "RSD", "XYZW"):
+            self.assertEqual(self.report(text.replace("RSDP @", f"{name} @")), self.plain)
+
+    def test_root_pointer_of_20_bytes(self):
+        # As a BIOS of revision 0 leaves it: an RSDT, and 20 bytes that sum to 0.
+        name, address, old = self.blocks[1]
+        root = bytearray(b"RSDT" + old[4:36] + b"".join(
+            where.to_bytes(4, "little") for _, where, _ in self.blocks[2:]))
+        root[4:8] = len(root).to_bytes(4, "little")
+        root[9] = (root[9] - sum(root)) % 256
+        pointer = bytearray(self.blocks[0][2][:15] + b"\0" + address.to_bytes(4, "little"))
+        pointer[8] = (pointer[8] - sum(pointer)) % 256
+        self.assertEqual(len(pointer), 20)
+        blocks = [("RSDP", self.blocks[0][1], bytes(pointer)), ("RSDT", address, bytes(root)),
+                  *self.blocks[2:]]
+        shown = self.report(dump_of(blocks))
+        self.assertIn("revision 0, 20 bytes", shown)
+        self.assertIn("2 processors", shown)
+
+    def test_blocks_that_touch(self):
+        # Each block goes on to where the next begins; nothing is lost at the borders.
+        data = sample.sample_image()[0]
+        starts = [address - sample.BASE for _, address, _ in self.blocks] + [len(data)]
+        touching = [
+            (name, address, bytes(data[start:end]))
+            for (name, address, _), start, end in zip(self.blocks, starts, starts[1:])
+        ]
+        self.assertEqual(self.report(dump_of(touching)), self.plain)
+
+    def test_blocks_that_overlap(self):
+        data = bytes(sample.sample_image()[0])
+        for start, end in ((0, len(data)), (0x10, 0x90), (0x90, 0x110), (0x50, 0x51)):
+            more = ("OEM1", sample.BASE + start, data[start:end])
+            for blocks in ([more, *self.blocks], [*self.blocks, more], [*self.blocks, more] * 2):
+                self.assertEqual(self.report(dump_of(blocks)), self.plain)
+        wrong = bytearray(data[0x50:0x90])
+        wrong[-1] ^= 1
+        result = run(self.file("board", dump_of(
+            [*self.blocks, ("OEM1", sample.BASE + 0x50, bytes(wrong))])))
+        self.assertEqual(result.status, 2)
+        self.assertRegex(result.err, r"board:\d+: block .* \(line \d+\) overlap and differ")
+
+    def test_forms_of_text(self):
+        text = dump_of(self.blocks)
+        self.assertEqual(self.report(b"\xef\xbb\xbf" + text.encode()), self.plain)
+        self.assertEqual(self.report(text.replace("\n", "\r\n")), self.plain)
+        self.assertEqual(self.report(text.lower().replace("rsdp", "RSDP")), self.plain)
+        self.assertEqual(self.report(text.replace("@ 0x00000000", "@ 0x")), self.plain)
+        self.assertEqual(self.report(text.replace("    00", "  00")), self.plain)
+        # Without the characters beside the bytes, and with spaces at line ends taken away.
+        bare = "\n".join(line[:57].rstrip() for line in text.split("\n"))
+        self.assertEqual(self.report(bare), self.plain)
+        stripped = "\n".join(line.rstrip() for line in text.split("\n"))
+        self.assertEqual(self.report(stripped), self.plain)
+
+    def test_a_row_that_is_cut(self):
+        # At a border of two bytes the digits alone would look whole.
+        lines = dump_of(self.blocks).rstrip("\n").split("\n")
+        for end in range(13, 58, 3):
+            for whole in (lines[:-1] + [lines[-1][:end]], lines[:3] + [lines[3][:end]] + lines[4:]):
+                result = run(self.file("board", "\n".join(whole)))
+                number = len(lines) if whole[3] == lines[3] else 4
+                self.assertEqual(result.status, 2)
+                self.assertIn(f"board:{number}: expected characters after the bytes", result.err)
+
+
 @needs_library
 class Started(InFolder):
     """The command in a process of its own, as a user starts it."""
@@ -200,11 +343,97 @@ class Started(InFolder):
         self.assertEqual(result.out, alone.out)
         self.assertEqual(result.out.count("\n"), 202)
 
+    def start(self, command, **more):
+        """Through a shell, which closes or redirects what is asked for."""
+        done = subprocess.run(
+            ["bash", "-c", command, sys.executable, str(ROOT / "tablewalk"), SAMPLE], cwd=ROOT,
+            stdout=subprocess.PIPE, stderr=subprocess.PIPE, timeout=60, **more,
+        )
+        return Result(done.returncode, done.stdout.decode(), done.stderr.decode())
+
+    def test_closed_streams(self):
+        result = self.start('"$0" -B "$1" - <&-')
+        self.assertEqual((result.status, result.err),
+                         (2, "tablewalk: -: standard input is closed\n"))
+        result = self.start('"$0" -B "$1" "$2" >&-')
+        self.assertEqual((result.status, result.err), (2, "tablewalk: standard output is closed\n"))
+        self.assertEqual(self.start('"$0" -B "$1" "$2" 2>&-').status, 0)
+        self.assertEqual(self.start('"$0" -B "$1" nothere 2>&-').status, 2)
+
+    @unittest.skipUnless(os.path.exists("/dev/full"), "there is no /dev/full")
+    def test_no_room_for_the_answer(self):
+        for command in ("", "summary", "--json", "explain"):
+            files = "" if command == "explain" else '"$2"'
+            result = self.start(f'"$0" -B "$1" {command} {files} >/dev/full')
+            self.assertEqual(
+                (result.status, result.err),
+                (2, "tablewalk: the answer can not be written: No space left on device\n"), command,
+            )
+        result = self.start('"$0" -B "$1" nothere 2>/dev/full')
+        self.assertEqual((result.status, result.out), (2, ""))
+
+    def on_terminal(self, *arguments):
+        """What the command writes to standard error where that is a terminal."""
+        outer, inner = pty.openpty()
+        process = subprocess.Popen(
+            [sys.executable, "-B", str(ROOT / "tablewalk"), *arguments], cwd=ROOT,
+            stdout=subprocess.PIPE, stderr=inner,
+        )
+        os.close(inner)
+        out = process.stdout.read()
+        process.stdout.close()
+        process.wait(60)
+        shown = b""
+        try:
+            while True:
+                part = os.read(outer, 65536)
+                if not part:
+                    break
+                shown += part
+        except OSError:
+            pass
+        os.close(outer)
+        return out, shown
+
+    def test_progress_on_a_terminal(self):
+        for n in range(3):
+            self.file(f"{n}.dump", (EXAMPLES / "sample.dump").read_bytes())
+        for form in ([], ["--csv"], ["--json"], ["--json-lines"]):
+            out, shown = self.on_terminal("summary", *form, str(self.folder))
+            self.assertIn(b"\r\x1b[K0 of 3 boards", shown)
+            self.assertIn(b"\r\x1b[K2 of 3 boards", shown)
+            # Nothing of it is left, and none of it is in the answer.
+            self.assertTrue(shown.endswith(b"\r\x1b[K"), shown)
+            self.assertNotIn(b"boards", out.split(b"\n\n")[0] if not form else b"")
+            self.assertNotIn(b"\x1b", out)
+
     def test_missing_library_says_how_to_build(self):
         result = run_script(SAMPLE, environment={"TABLEWALK_LIBRARY": str(self.folder / "x.so")})
         self.assertEqual(result.status, 2)
         self.assertIn("tools/staticlib --shared", result.err)
         self.assertNotIn("Traceback", result.err)
+
+    def test_an_older_python(self):
+        program = (
+            "import runpy, sys\n"
+            "sys.version_info = (3, 8, 0)\n"
+            f"runpy.run_path({str(ROOT / 'tablewalk')!r}, run_name='__main__')\n"
+        )
+        done = subprocess.run(
+            [sys.executable, "-B", "-c", program], stdout=subprocess.PIPE,
+            stderr=subprocess.PIPE, timeout=60,
+        )
+        self.assertEqual(done.returncode, 2)
+        self.assertEqual(done.stderr, b"tablewalk: expected Python 3.9 or later\n")
+
+    def test_another_library(self):
+        copy = self.file("other.so", SHARED.read_bytes())
+        result = run_script(SAMPLE, environment={"TABLEWALK_LIBRARY": copy})
+        self.assertEqual((result.status, result.err), (0, ""))
+        text = self.file("text.so", "no library")
+        result = run_script(SAMPLE, environment={"TABLEWALK_LIBRARY": text})
+        self.assertEqual(result.status, 2)
+        self.assertIn("can not be loaded", result.err)
 
     def test_terminal(self):
         for environment, coloured in (({"NO_COLOR": ""}, True), ({"NO_COLOR": "1"}, False)):

@@ -81,6 +81,12 @@ class Declarations(unittest.TestCase):
                 ours = [field.name for field in dataclasses.fields(record)]
                 self.assertEqual(ours, more + [field for _, field in structs[name]])
 
+    def test_words_of_the_platform(self):
+        # The one answer that holds two other records: their words, and three more.
+        inner = (records.InterruptModel, records.GenericAddress)
+        words = sum(len(dataclasses.fields(record)) for record in inner) + 3
+        self.assertEqual(numbers_of_header()["PLATFORM_WORDS"], words)
+
     def test_numbers_of_registers(self):
         numbers = numbers_of_header()
         for place, name in enumerate(names.REGISTERS):

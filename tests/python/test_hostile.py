@@ -1,11 +1,19 @@
 """Text that is damaged, cut or no text at all: always a message or a report."""
 
 import random
+import time
 import unittest
 
 from support import EXAMPLES, InFolder, dumps, library, run
 
+from tablewalk import DumpError
+from tablewalk.command import Options, image_of
+from tablewalk.report import Paint, board, text_of_board
+
 SEED = 20251
+
+# From here on a dump is too long for the whole command on each of its beginnings.
+LARGE = 4000
 
 
 class Hostile(InFolder):
@@ -29,13 +37,47 @@ class Hostile(InFolder):
         return result
 
     def test_cut_at_every_byte(self):
+        # The whole command on each beginning of the small examples; the large ones follow.
         for dump in dumps():
             data = dump.read_bytes()
-            step = 1 if len(data) < 4000 else 131
-            for end in range(0, len(data), step):
-                self.holds(data[:end])
-        self.assertGreater(self.seen[2], 0)
-        self.assertGreater(self.seen[1], 0)
+            if len(data) < LARGE:
+                for end in range(len(data)):
+                    self.holds(data[:end])
+        self.assertGreater(self.seen[2], 1000)
+        self.assertGreater(self.seen[1], 1000)
+
+    def test_large_dumps_cut_at_every_byte(self):
+        # What the command does after it has read a file, on each beginning of the text. The
+        # report is a function of the image, so it is made once for beginnings with one image.
+        for dump in dumps():
+            data = dump.read_bytes()
+            if len(data) < LARGE:
+                continue
+            reports = 0
+            messages = 0
+            before = None
+            began = time.process_time()
+            for end in range(len(data)):
+                try:
+                    image = image_of(data[:end], dump.name, Options(), self.library)
+                except DumpError as error:
+                    messages += 1
+                    self.assertIn("expected", error.message)
+                    self.assertTrue(str(error).startswith(f"{dump.name}:" if end else dump.name))
+                    # The fault is in the line that is cut.
+                    last = data.count(b"\n", 0, end) + 1
+                    self.assertEqual(error.line, last if end else None)
+                    continue
+                key = (image.data, image.range_list, image.notes)
+                if key != before:
+                    before = key
+                    reports += 1
+                    text = text_of_board(board(dump.name, image), Paint(False))
+                    self.assertLessEqual(max(map(len, text.split("\n"))), 80)
+            self.assertGreater(messages, len(data) // 3, dump.name)
+            self.assertGreater(reports, 500, dump.name)
+            # Quickly: of each beginning, in a few thousandths of a second.
+            self.assertLess(time.process_time() - began, 0.005 * len(data), dump.name)
 
     def test_cut_from_the_front(self):
         data = (EXAMPLES / "sample.dump").read_bytes()
@@ -46,7 +88,7 @@ class Hostile(InFolder):
         choose = random.Random(SEED)
         for dump in dumps():
             data = dump.read_bytes()
-            for _ in range(250 if len(data) < 4000 else 60):
+            for _ in range(250 if len(data) < LARGE else 60):
                 damaged = bytearray(data)
                 for _ in range(choose.choice([1, 1, 1, 2, 5, 40])):
                     damaged[choose.randrange(len(damaged))] = choose.randrange(256)
@@ -58,7 +100,7 @@ class Hostile(InFolder):
         for dump in dumps():
             data = dump.read_bytes()
             places = [n for n, byte in enumerate(data) if chr(byte) in "0123456789ABCDEF"]
-            for _ in range(250 if len(data) < 4000 else 60):
+            for _ in range(250 if len(data) < LARGE else 60):
                 damaged = bytearray(data)
                 for _ in range(choose.choice([1, 1, 2, 8])):
                     damaged[choose.choice(places)] = ord(choose.choice("0123456789ABCDEF"))
@@ -86,6 +128,15 @@ class Hostile(InFolder):
             self.assertEqual(self.holds(noise, "--base", "7ff00000").status, 1)
             self.holds(b"APIC @ 0x1000\n" + noise)
         self.assertEqual(self.holds(bytes(1 << 20)).status, 1)
+
+    def test_memory_that_holds_a_heading_by_chance(self):
+        memory = bytearray(2 << 20)
+        memory[0x180000:0x180010] = b"\nAPIC @ 0x1000\n\0"
+        self.assertIn("18: no root pointer", self.holds(bytes(memory)).out)
+        # A dump stays one if a byte of it becomes zero.
+        data = bytearray((EXAMPLES / "sample.dump").read_bytes())
+        data[10] = 0
+        self.assertEqual(self.holds(bytes(data)).status, 0)
 
     def test_empty(self):
         result = self.holds(b"")

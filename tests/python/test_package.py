@@ -3,6 +3,7 @@
 import dataclasses
 import doctest
 import os
+import pickle
 import threading
 import unittest
 
@@ -17,11 +18,13 @@ from tablewalk import (
     Library,
     LibraryMissing,
     PciConfigEntry,
+    PmTimer,
     Range,
     Refused,
     Table,
     TableBytes,
 )
+from tablewalk.library import FUNCTIONS
 
 BASE = sample.BASE
 
@@ -94,6 +97,15 @@ class Sample(unittest.TestCase):
         self.refused(15, self.image.mailbox)
         self.assertEqual(self.image.madt_fixed().flags, 1)
 
+    def test_platform(self):
+        text = (EXAMPLES / "qemu-q35-ovmf.dump").read_bytes()
+        image = Image.from_acpidump(text, "qemu", self.library)
+        info = image.platform()
+        self.assertEqual(info.power_profile, image.fadt_number(4))
+        self.assertEqual(info.interrupt_model, image.interrupt_model())
+        self.assertEqual(info.interrupt_model.processors, 2)
+        self.assertEqual(info.pm_timer, PmTimer(image.fadt_register("pm_timer_block"), False))
+
     def test_pci(self):
         self.assertEqual(self.image.mcfg_entries(), [PciConfigEntry(0xB0000000, 0, 0, 63)])
         self.assertEqual(self.image.pci_address(0, 12, 3, 1), 0xB0C19000)
@@ -102,9 +114,9 @@ class Sample(unittest.TestCase):
 
     def test_what_is_not_there(self):
         for question in (
-            self.image.hpet, self.image.fadt_fixed, self.image.dsdt,
+            self.image.hpet, self.image.fadt_fixed, self.image.dsdt, self.image.platform,
             lambda: self.image.ssdt(0), lambda: self.image.fadt_register("reset_register"),
-            lambda: self.image.fadt_number(1),
+            lambda: self.image.fadt_number(1), lambda: self.image.fadt_number("dsdt_address"),
         ):
             self.refused(12, question)
         self.refused(18, self.image.search)
@@ -140,6 +152,37 @@ class Sample(unittest.TestCase):
         refused = self.refused(15, table.interrupt_model)
         self.assertEqual(refused.place, f"MADT entry 700 at offset {44 + len(entries):#x}")
 
+    def test_every_function_is_a_method(self):
+        for name in FUNCTIONS:
+            alone = name.startswith("tablewalk_table_") and name != "tablewalk_table_at"
+            short = name[len("tablewalk_table_" if alone else "tablewalk_"):]
+            self.assertTrue(callable(getattr(TableBytes if alone else Image, short)), name)
+
+    def test_platform_of_other_boards(self):
+        text = (EXAMPLES / "qemu-q35-seabios.dump").read_bytes()
+        whole = Image.from_acpidump(text, "board", self.library)
+
+        def changed(signature, *changes):
+            table = whole.find(signature)
+            data = bytearray(whole.data)
+            for place, value in changes:
+                data[table.offset + place] = value
+            part = data[table.offset:table.offset + table.length]
+            data[table.offset + 9] = (data[table.offset + 9] - sum(part)) % 256
+            return Image(bytes(data), whole.range_list, whole.rsdp_address, self.library)
+
+        flags = whole.fadt_fixed().flags
+        wide = changed("FACP", (113, flags >> 8 & 0xFF | 1), (45, 2)).platform()
+        self.assertTrue(wide.pm_timer.supports_32bit)
+        self.assertEqual(wide.power_profile, 2)
+        # No timer, and no MADT, are no refusals; a wrong MADT and an unknown space are.
+        self.assertIsNone(changed("FACP", (91, 3)).platform().pm_timer)
+        without = changed("APIC", (0, 0x58)).platform().interrupt_model
+        self.assertEqual(dataclasses.astuple(without), (False, 0, False, 0, 0, 0, 0, 0))
+        wrong = self.refused(15, changed("APIC", (45, 0)).platform)
+        self.assertEqual(wrong.place, "MADT entry 0 at offset 0x2c")
+        self.refused(14, changed("FACP", (208, 0x33)).platform)
+
     def test_arguments_that_do_not_fit(self):
         for question in (
             lambda: self.image.pci_address(0, 256, 0, 0),
@@ -147,6 +190,8 @@ class Sample(unittest.TestCase):
             lambda: self.image.entry(-1),
             lambda: self.image.any_table_at(1 << 64),
             lambda: self.image.find("APICS"),
+            lambda: self.image.fadt_number("no_such_number"),
+            lambda: self.image.fadt_register("no_such_register"),
             lambda: Image(b"", [(1 << 64, 0, 0)], 0, self.library),
         ):
             with self.assertRaises(ValueError):
@@ -239,6 +284,16 @@ class Constructors(InFolder):
             with self.assertRaises(Refused) as caught:
                 Image(self.data, ranges, 0, self.library).ranges()
             self.assertEqual(caught.exception.number, 1)
+
+    def test_exceptions_reach_another_process(self):
+        # A test bench may ask in processes of its own, which hand exceptions over.
+        for error in (
+            Refused(15, "interrupt_model", "MADT entry 4"), DumpError("board", 7, "expected bytes"),
+            DumpError("board", None, "the file is empty"),
+        ):
+            again = pickle.loads(pickle.dumps(error))
+            self.assertEqual((str(again), vars(again)), (str(error), vars(error)))
+        self.assertEqual(str(DumpError("board", 7, "expected bytes")), "board:7: expected bytes")
 
     def test_missing_library(self):
         with self.assertRaises(LibraryMissing) as caught:

@@ -5,6 +5,7 @@ The proofs run the program and compare what it writes with its file stdout. So
 its questions must be byte for byte what make_cases.py writes now, and its stdout
 must say that every one of them was asked and that no answer differs. Prints a
 line for each of the two that is not so, and 'N passed, M failed' at the end.
+check_oracle.py does the same for the second file that the program replays.
 """
 
 import pathlib
@@ -13,13 +14,14 @@ import sys
 
 import make_cases
 
+SECOND_FILE = "answers of the comparison with the crate:\n"
 REPLAY = pathlib.Path(__file__).resolve().parents[2] / "crates" / "replay"
 
 
 def counts_in(text):
     """How many questions of each number the program says that it asked, and how
     many in all. None if a line is not as it is where no answer differs."""
-    lines = text.split("\n")
+    lines = text.split(SECOND_FILE)[0].split("\n")
     asked = {}
     for line in lines[:-2]:
         match = re.fullmatch(r"(\d+) [^:]+: (\d+) asked, 0 differ", line)

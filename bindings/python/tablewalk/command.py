@@ -6,10 +6,15 @@ import io
 import json
 import os
 import re
+import signal
 import subprocess
 import sys
+import tempfile
 import textwrap
-from typing import Any, Callable, Dict, Iterator, List, NoReturn, Optional, Sequence, TextIO, Tuple
+import time
+from typing import (
+    IO, Any, Callable, Dict, Iterator, List, NoReturn, Optional, Sequence, TextIO, Tuple,
+)
 
 from . import __version__, names
 from .answers import FOUND, MEANINGS, NO_VALID_TABLE, Refused, meaning_of
@@ -22,7 +27,7 @@ from .dump import (
     printable,
 )
 from .image import Image, signature_number
-from .library import HOW_TO_BUILD, ROOT, SHARED, Library, LibraryMissing
+from .library import HOW_TO_BUILD, ROOT, SHARED, Library, LibraryMissing, missing_function
 from .records import Range
 from .report import (
     WIDTH,
@@ -30,6 +35,7 @@ from .report import (
     Paint,
     address,
     board,
+    count,
     of_signature,
     refusal,
     text_of_board,
@@ -67,6 +73,8 @@ The board is refused if its root table or its interrupt model is, or if it lists
 an MCFG, HPET or FADT that can not be used.
 
 Exit status: 0 answered, 1 some board refused, 2 wrong usage or bad input.
+Colour: on a terminal, and not if NO_COLOR is set. TABLEWALK_LIBRARY may name
+another libtablewalk.so than the one that is built here.
 """
 
 
@@ -93,15 +101,25 @@ class Context:
     def library(self) -> Library:
         """The library, built first where it is not built yet."""
         if self.given is None:
-            build_if_missing(self.err)
-            self.given = Library(library_path())
+            path = library_path()
+            if path is None:
+                build_if_needed(self.err)
+            self.given = Library(path)
         return self.given
 
     def complain(self, message: str, status: int = WRONG_INPUT) -> None:
         """A message on standard error; the worst status seen is the command's."""
-        self.out.flush()
-        self.err.write(f"tablewalk: {message}\n")
         self.status = max(self.status, status)
+        self.out.flush()
+        self.say(f"tablewalk: {message}\n")
+
+    def say(self, text: str) -> None:
+        """Write to standard error, and do without where that is not possible."""
+        try:
+            self.err.write(text)
+            self.err.flush()
+        except OSError:
+            pass
 
     def refused(self) -> None:
         """Some board was refused."""
@@ -113,31 +131,75 @@ def library_path() -> Optional[str]:
     return os.environ.get("TABLEWALK_LIBRARY") or None
 
 
-def build_if_missing(err: TextIO) -> None:
-    """Run the checkout's own build where the library is not there."""
-    if library_path() is not None or SHARED.exists():
-        return
+def build_if_needed(err: TextIO) -> None:
+    """Run the checkout's own build where the library is not there, or is an older one
+    that lacks a function."""
     tool = ROOT / HOW_TO_BUILD.split()[0]
     if not tool.exists():
         return
-    err.write(f"tablewalk: the library is not built yet; running {HOW_TO_BUILD}\n")
+    if not SHARED.exists():
+        reason = "is not built yet"
+    else:
+        missing = missing_function(SHARED)
+        if missing is None:
+            return
+        reason = f"that is built is an older one, without {missing}"
+    err.write(
+        (ERASE if err.isatty() else "")
+        + f"tablewalk: the library {reason}; running {HOW_TO_BUILD}\n"
+        "tablewalk: this proves it first, which takes some minutes, and is done only once\n"
+    )
     err.flush()
+    began = time.monotonic()
+    with tempfile.TemporaryFile() as said:
+        status = run_build([str(tool), *HOW_TO_BUILD.split()[1:]], said, err, began)
+        if status != 0 or not SHARED.exists():
+            last = lines_of(said)[-5:] or ["(it said nothing)"]
+            raise LibraryMissing(
+                f"{HOW_TO_BUILD} ended with status {status}; its last words:\n  "
+                + "\n  ".join(printable(line, 200) for line in last)
+            )
+    err.write(f"tablewalk: the library is built, in {time.monotonic() - began:.0f} s\n")
+    err.flush()
+
+
+def run_build(
+    command: Sequence[str], said: IO[bytes], err: TextIO, began: float
+) -> int:
+    """Run a build whose words go to a file; on a terminal, a line shows that it works."""
     try:
-        done = subprocess.run(
-            [str(tool), *HOW_TO_BUILD.split()[1:]],
-            cwd=str(ROOT),
-            stdin=subprocess.DEVNULL,
-            stdout=subprocess.PIPE,
+        process = subprocess.Popen(
+            command, cwd=str(ROOT), stdin=subprocess.DEVNULL, stdout=said,
             stderr=subprocess.STDOUT,
         )
     except OSError as error:
         raise LibraryMissing(f"{HOW_TO_BUILD} could not be run: {error.strerror}") from None
-    if done.returncode != 0 or not SHARED.exists():
-        last = done.stdout.decode("utf-8", "replace").strip().split("\n")[-5:]
-        raise LibraryMissing(
-            f"{HOW_TO_BUILD} ended with status {done.returncode}:\n  " + "\n  ".join(last)
-        )
-    err.write("tablewalk: the library is built\n")
+    try:
+        while True:
+            try:
+                return process.wait(1 if err.isatty() else None)
+            except subprocess.TimeoutExpired:
+                words = (lines_of(said) or [""])[-1]
+                line = f"{time.monotonic() - began:.0f} s  {printable(words, 60)}"
+                err.write(f"{ERASE}{line}")
+                err.flush()
+    finally:
+        if err.isatty():
+            err.write(ERASE)
+        if process.poll() is None:
+            process.terminate()
+            process.wait()
+
+
+def lines_of(file: IO[bytes]) -> List[str]:
+    """The lines that a build has written so far, but for empty ones."""
+    size = os.fstat(file.fileno()).st_size
+    text = os.pread(file.fileno(), 65536, max(0, size - 65536)).decode("utf-8", "replace")
+    return [line.rstrip() for line in text.split("\n") if line.strip()]
+
+
+# Begins a line of a terminal anew.
+ERASE = "\r\x1b[K"
 
 
 # Input.
@@ -157,6 +219,8 @@ class Options:
 
 def read_file(name: str) -> bytes:
     """All bytes of a file, or of standard input for -."""
+    if name == "-" and sys.stdin is None:
+        raise DumpError(name, None, "standard input is closed")
     try:
         if name == "-":
             return sys.stdin.buffer.read()
@@ -172,14 +236,20 @@ def read_file(name: str) -> bytes:
 FIRST_MEGABYTE = 0x100000
 
 
-def load(name: str, options: Options, library: Library) -> Image:
-    """A file as an image, whatever of the three kinds it is."""
+def load(name: str, options: Options, library: Callable[[], Library]) -> Image:
+    """A file as an image, whatever of the three kinds it is. The library is asked for
+    only once the file was read, since building it may take minutes."""
     data = read_file(name)
+    return image_of(data, name, options, library())
+
+
+def image_of(data: bytes, name: str, options: Options, library: Library) -> Image:
+    """The bytes of a file as an image."""
     if not data:
         raise DumpError(name, None, "the file is empty; expected an acpidump text or an image")
     if options.ranges is not None:
         image = Image(data, options.ranges, options.rsdp, library)
-        image.notes = (f"raw image of {len(data)} bytes in {len(options.ranges)} ranges",)
+        image.notes = (f"raw image of {len(data)} bytes in {count(len(options.ranges), 'range')}",)
         return image
     if options.base is None and looks_like_dump(data):
         layout = layout_of_acpidump(data, name)
@@ -230,10 +300,9 @@ def each_image(
     context: Context, files: Sequence[str], options: Options
 ) -> Iterator[Tuple[str, Optional[Image], Optional[str]]]:
     """Each file as an image, or with the reason why it is none."""
-    library = context.library()
     for name in files:
         try:
-            yield name, load(name, options, library), None
+            yield name, load(name, options, context.library), None
         except DumpError as error:
             message = printable(str(error), 4096)
             context.complain(message)
@@ -272,7 +341,7 @@ def command_report(context: Context, words: argparse.Namespace, options: Options
         elif image is not None:
             context.out.write(("" if first else "\n") + text_of_board(data, paint))
             first = False
-    if words.json and not words.json_lines:
+    if words.json:
         write_json(context, boards, False, len(files) != 1)
 
 
@@ -282,7 +351,7 @@ SUMMARY_COLUMNS = (
 )
 
 
-def summary_row(name: str, options: Options, library: Library) -> Data:
+def summary_row(name: str, options: Options, library: Callable[[], Library]) -> Data:
     """One board as one line: what the report says, counted."""
     row: Data = dict.fromkeys(SUMMARY_COLUMNS, "")
     row["file"] = name
@@ -336,7 +405,20 @@ def summary_row(name: str, options: Options, library: Library) -> Data:
 def summary_rows(names_: Sequence[str], options: Options, path: Optional[str]) -> List[Data]:
     """The lines of some boards, in a process of its own."""
     library = Library(path)
-    return [summary_row(name, options, library) for name in names_]
+    return [summary_row(name, options, lambda: library) for name in names_]
+
+
+def processors() -> int:
+    """How many processors this process may use."""
+    if hasattr(os, "sched_getaffinity"):
+        return len(os.sched_getaffinity(0))
+    return os.cpu_count() or 1
+
+
+def end_quietly() -> None:
+    """Let an interrupt end this process without a word; the one that the user started
+    has something to say then."""
+    signal.signal(signal.SIGINT, signal.SIG_DFL)
 
 
 def all_rows(
@@ -345,42 +427,61 @@ def all_rows(
     """The lines of all boards, in order, with every processor at work where there
     are enough boards for that to pay."""
     given = context.given
-    library = context.library()
-    workers = os.cpu_count() or 1
-    if given is not None or workers == 1 or len(files) < 32 or "-" in files:
-        for name in files:
-            yield [summary_row(name, options, library)]
-        return
-    # Loading this takes longer than a report does, so only a summary pays for it.
-    from concurrent.futures import ProcessPoolExecutor
+    workers = processors()
+    if given is None and workers > 1 and len(files) >= 32 and "-" not in files:
+        # Built here, where it is not, and loaded by each process.
+        context.library()
+        # Loading this takes longer than a report does, so only a summary pays for it.
+        from concurrent.futures import ProcessPoolExecutor
+        from concurrent.futures.process import BrokenProcessPool
 
-    size = max(1, min(64, len(files) // (4 * workers)))
-    parts = [files[at:at + size] for at in range(0, len(files), size)]
-    with ProcessPoolExecutor(workers) as pool:
-        futures = [pool.submit(summary_rows, part, options, library_path()) for part in parts]
-        for future in futures:
-            yield future.result()
+        size = max(1, min(64, len(files) // (4 * workers)))
+        parts = [files[at:at + size] for at in range(0, len(files), size)]
+        pool: Optional[ProcessPoolExecutor] = None
+        try:
+            pool = ProcessPoolExecutor(workers, initializer=end_quietly)
+            futures = [pool.submit(summary_rows, part, options, library_path()) for part in parts]
+            for future in futures:
+                rows = future.result()
+                files = files[len(rows):]
+                yield rows
+        except (BrokenProcessPool, OSError, NotImplementedError) as error:
+            # A system may have no room for more processes, or end one; what is left is
+            # then done here.
+            context.say(f"tablewalk: going on with one process ({printable(str(error), 200)})\n")
+        finally:
+            if pool is not None:
+                pool.shutdown(cancel_futures=True)
+    for name in files:
+        yield [summary_row(name, options, context.library)]
 
 
 def command_summary(context: Context, words: argparse.Namespace, options: Options) -> None:
     """One line a board, then counts by answer."""
     files = files_in(words.files, context)
-    show_progress = context.err.isatty() and not words.json_lines
+    show_progress = context.err.isatty()
     paint = Paint(wants_colour(context.out))
     counts: Dict[Any, int] = {}
+    kept: List[Data] = []
     done = 0
     labels = labels_of(files)
     width = min(max([len(label) for label in labels.values()] + [4]), FILE_COLUMN)
     if words.csv:
         context.out.write(csv_line(SUMMARY_COLUMNS))
-    elif not words.json_lines:
+    elif not (words.json or words.json_lines):
         context.out.write(
             f"{'file':<{width}}  maker   table id  tables  procs  ctrls  wins  answer\n"
         )
-    for rows in all_rows(context, files, options):
+
+
+    def progress(line: str) -> None:
         if show_progress:
-            context.err.write("\r\x1b[K")
-            context.err.flush()
+            context.out.flush()
+            context.say(ERASE + line)
+
+    progress(f"0 of {count(len(files), 'board')}")
+    for rows in all_rows(context, files, options):
+        progress("")
         for row in rows:
             counts[row["answer"]] = counts.get(row["answer"], 0) + 1
             if row["answer"] == "unreadable":
@@ -391,17 +492,20 @@ def command_summary(context: Context, words: argparse.Namespace, options: Option
                 context.out.write(csv_line([row[c] for c in SUMMARY_COLUMNS]))
             elif words.json_lines:
                 context.out.write(json.dumps(row) + "\n")
+            elif words.json:
+                kept.append(row)
             else:
                 context.out.write(summary_line(row, labels[row["file"]], width, paint))
         done += len(rows)
-        if show_progress and done < len(files):
-            context.out.flush()
-            context.err.write(f"{done} of {len(files)} boards")
-            context.err.flush()
-    if words.csv or words.json_lines:
+        if done < len(files):
+            progress(f"{done} of {count(len(files), 'board')}")
+    if words.json:
+        by_answer = {str(answer): counts[answer] for answer in sorted(counts, key=answer_order)}
+        context.out.write(json.dumps({"boards": kept, "counts": by_answer}, indent=2) + "\n")
+    if words.csv or words.json or words.json_lines:
         return
-    context.out.write(f"\n{len(files)} board{'' if len(files) == 1 else 's'}\n")
-    for answer in sorted(counts, key=lambda a: (isinstance(a, str), a)):
+    context.out.write(f"\n{count(len(files), 'board')}\n")
+    for answer in sorted(counts, key=answer_order):
         text = "not a dump, or can not be read" if answer == "unreadable" else meaning_of(answer)
         label = "-" if answer == "unreadable" else str(answer)
         colour = paint.good if answer == FOUND else paint.bad
@@ -410,6 +514,11 @@ def command_summary(context: Context, words: argparse.Namespace, options: Option
             drop_whitespace=False,
         )
         context.out.write("".join(colour(line.rstrip()) + "\n" for line in lines))
+
+
+def answer_order(answer: Any) -> Tuple[bool, Any]:
+    """Answers by their number, and the word for files without one behind them."""
+    return isinstance(answer, str), answer
 
 
 # What the other columns of a summary leave of a line of 80.
@@ -478,6 +587,8 @@ def command_find(context: Context, words: argparse.Namespace, options: Options) 
                 raise
             data = refusal(refused)
         rows = of_signature(image, signature)
+        if not rows:
+            data["place"] = why_not(image, signature)
         data["signature"] = signature
         data["tables"] = [row for row in rows if row["answer"] == FOUND]
         data["passed_over"] = [row for row in rows if row["answer"] != FOUND]
@@ -525,7 +636,8 @@ def command_pci(context: Context, words: argparse.Namespace, options: Options) -
 
 
 def command_entries(context: Context, words: argparse.Namespace, options: Options) -> None:
-    """Every entry of the MADT, up to one that is inconsistent."""
+    """Every entry of the MADT. Behind one that the library refuses, the others are shown
+    as their bytes stand, as far as their lengths lead."""
 
     def answer(image: Image) -> Data:
         table = image.find("APIC", names.FIXED_PART["APIC"])
@@ -533,32 +645,50 @@ def command_entries(context: Context, words: argparse.Namespace, options: Option
         entries: List[Data] = []
         data: Data = {"table": address(table.address), "entries": entries}
         end = names.FIXED_PART["APIC"]
+
+        def shown(kind: int, offset: int, length: int) -> Data:
+            return {
+                "offset": offset, "kind": kind, "name": names.kind_name(kind),
+                "length": length, "bytes": madt.data[offset:offset + length].hex(" "),
+            }
+
         try:
             for entry in madt.madt_entries():
                 end = entry.offset + entry.length
-                entries.append({
-                    "offset": entry.offset, "kind": entry.kind,
-                    "name": names.kind_name(entry.kind), "length": entry.length,
-                    "bytes": madt.data[entry.offset:end].hex(" "),
-                })
+                entries.append(shown(entry.kind, entry.offset, entry.length))
         except Refused as refused:
             refused.place = f"MADT entry {len(entries)} at offset {end:#x}"
             data.update(refusal(refused))
+            unread: List[Data] = []
+            while end + 2 <= len(madt.data):
+                kind, length = madt.data[end], madt.data[end + 1]
+                if length < 2 or end + length > len(madt.data):
+                    break
+                unread.append(shown(kind, end, length))
+                end += length
+            data["unread"] = unread
             data["rest"] = madt.data[end:end + 16].hex(" ")
         return data
 
-    def show(data: Data) -> Iterator[str]:
-        yield f"MADT at {data['table']}"
-        yield "  offset  kind  length  what"
-        for entry in data["entries"]:
+    def rows(entries: List[Data]) -> Iterator[str]:
+        for entry in entries:
             yield (
                 f"  {entry['offset']:#6x}  {entry['kind']:>4}  {entry['length']:>6}"
                 f"  {entry['name']}"
             )
             for at in range(0, len(entry["bytes"]), 48):
                 yield f"            {entry['bytes'][at:at + 48].rstrip()}"
+
+    def show(data: Data) -> Iterator[str]:
+        yield f"MADT at {data['table']}"
+        yield "  offset  kind  length  what"
+        yield from rows(data["entries"])
         if data["answer"] != FOUND:
-            yield f"  then: {data['rest']}"
+            if data["unread"]:
+                yield "  from here on refused; as the bytes stand:"
+                yield from rows(data["unread"])
+            if data["rest"]:
+                yield f"  then: {data['rest']}"
 
     run_question(context, words, options, answer, show)
 
@@ -580,18 +710,31 @@ def run_question(
             except Refused as refused:
                 data.update(refusal(refused))
             if not (words.json or words.json_lines):
-                prefix = f"{printable(name, 4096)}: " if len(files) > 1 else ""
+                lines: List[str] = []
                 if data["answer"] == FOUND or "rest" in data or "passed_over" in data:
-                    for line in show(data):
-                        context.out.write(f"{prefix}{line}\n")
+                    lines += show(data)
                 if data["answer"] != FOUND:
                     place = f" ({data['place']})" if "place" in data else ""
-                    context.out.write(f"{prefix}{data['answer']}: {data['meaning']}{place}\n")
+                    lines.append(f"{data['answer']}: {data['meaning']}{place}")
+                # Of several boards each line is whole and has the file in front, so that it
+                # can be searched for; of one board they fit a terminal.
+                if len(files) > 1:
+                    lines = [f"{printable(name, 4096)}: {line}" for line in lines]
+                else:
+                    lines = [part for line in lines for part in folded(line)]
+                context.out.write("".join(f"{line}\n" for line in lines))
             if data["answer"] != FOUND:
                 context.refused()
         boards.append(data)
     if words.json or words.json_lines:
         write_json(context, boards, words.json_lines, len(files) != 1)
+
+
+def folded(line: str) -> List[str]:
+    """A line, or several with the later ones indented, within the width of a terminal."""
+    if len(line) <= WIDTH:
+        return [line]
+    return textwrap.wrap(line, WIDTH, subsequent_indent="    ", break_on_hyphens=False)
 
 
 def command_explain(context: Context, words: argparse.Namespace) -> None:
@@ -610,9 +753,8 @@ def command_explain(context: Context, words: argparse.Namespace) -> None:
 
 def explain(context: Context, number: int) -> None:
     """A number and its meaning, within the width of a terminal."""
-    text = f"{number:>2}: {MEANINGS[number]}"
-    lines = textwrap.wrap(text, WIDTH, subsequent_indent="    ", drop_whitespace=False)
-    context.out.write("".join(line.rstrip() + "\n" for line in lines))
+    for line in folded(f"{number:>2}: {MEANINGS[number]}"):
+        context.out.write(line + "\n")
 
 
 # The command line.
@@ -646,6 +788,12 @@ def add_json(parser: argparse.ArgumentParser) -> None:
 def options_of(words: argparse.Namespace) -> Options:
     """The options about input, taken apart."""
     options = Options()
+    forms = [f"--{name.replace('_', '-')}" for name in ("csv", "json", "json_lines")
+             if getattr(words, name, False)]
+    if len(forms) > 1:
+        raise Usage(f"{' and '.join(forms)}: expected only one of them")
+    if [*words.files, words.map].count("-") > 1:
+        raise Usage("-: expected only once, since standard input can be read only once")
     if words.base is not None and words.map is not None:
         raise Usage("--base and --map: expected only one of them")
     for name in ("base", "rsdp"):
@@ -692,10 +840,7 @@ def parser_for(command: Optional[str]) -> argparse.ArgumentParser:
     add_input(parser)
     if command == "summary":
         parser.add_argument("--csv", action="store_true", help="comma separated values")
-        parser.add_argument("--json-lines", action="store_true",
-                            help="a line of JSON for each board")
-    else:
-        add_json(parser)
+    add_json(parser)
     return parser
 
 
@@ -714,7 +859,7 @@ def run(arguments: Sequence[str], context: Context) -> None:
         context.out.flush()
         if not SAMPLE.exists():
             raise DumpError(str(SAMPLE), None, "the sample is missing from this checkout")
-        image = load(str(SAMPLE), Options(), context.library())
+        image = load(str(SAMPLE), Options(), context.library)
         data = board("examples/sample.dump", image)
         context.out.write(text_of_board(data, Paint(wants_colour(context.out))))
         if data["answer"] != FOUND:
@@ -731,6 +876,12 @@ def run(arguments: Sequence[str], context: Context) -> None:
         command_report(context, words, options_of(words))
 
 
+def give_up_output() -> None:
+    """Send what is still to be written nowhere, so that nothing complains at the end."""
+    if sys.stdout is not None:
+        os.dup2(os.open(os.devnull, os.O_WRONLY), sys.stdout.fileno())
+
+
 def main(
     arguments: Optional[Sequence[str]] = None,
     out: Optional[TextIO] = None,
@@ -738,8 +889,14 @@ def main(
     library: Optional[Library] = None,
 ) -> int:
     """Run the command and give its exit status."""
-    out = out if out is not None else sys.stdout
     err = err if err is not None else sys.stderr
+    if err is None:
+        # Closed by whoever started the command, so nobody reads messages.
+        err = io.StringIO()
+    out = out if out is not None else sys.stdout
+    if out is None:
+        err.write("tablewalk: standard output is closed\n")
+        return WRONG_INPUT
     # A file's name need not be text; it must not stop the report of the others.
     for stream in (out, err):
         if isinstance(stream, io.TextIOWrapper):
@@ -753,13 +910,16 @@ def main(
         text = str(error)
         context.complain(printable(text, 4096) if isinstance(error, DumpError) else text)
     except KeyboardInterrupt:
-        err.write("\ntablewalk: stopped\n")
+        context.say("\ntablewalk: stopped\n")
         return 130
     except BrokenPipeError:
-        # Whoever reads our output has had enough. Without this, closing the stream
-        # at the end would complain once more.
-        os.dup2(os.open(os.devnull, os.O_WRONLY), sys.stdout.fileno())
-        return context.status
+        # Whoever reads our output has had enough.
+        give_up_output()
+    except OSError as error:
+        # Everything that is read has messages of its own.
+        give_up_output()
+        context.status = WRONG_INPUT
+        context.say(f"tablewalk: the answer can not be written: {error.strerror or error}\n")
     except SystemExit as ending:
         return int(ending.code or 0)
     return context.status

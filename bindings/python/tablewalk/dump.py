@@ -13,9 +13,20 @@ MOST_RANGES = 64
 END_OF_MEMORY = 1 << 64
 
 ROOT_POINTER_NAMES = ("RSDP", "RSD PTR")
+ROOT_POINTER_SIGNATURE = b"RSD PTR "
 
-_HEADING = re.compile(r"(\S.{0,7}?) *@ *(?:0[xX])?([0-9A-Fa-f]{1,16})[ \t]*\Z")
-_ROW = re.compile(r"[ \t]*([0-9A-Fa-f]{1,8}):((?: [0-9A-Fa-f]{2}){1,16})(?=  |[ \t]*\Z)")
+# Some editors and shells write this in front of a text.
+_BYTE_ORDER_MARK = b"\xef\xbb\xbf"
+
+_HEADING = re.compile(r"(\S.{0,7}?) *@ *(?:0[xX])?([0-9A-Fa-f]{1,16})[ \t]*\r*\Z")
+# The columns of a row: 16 pairs of digits, and two spaces before the characters beside them.
+ROW_WIDTH = 16 * len(" 41") + 2
+# A row has 16 pairs of digits or, where a block ends, fewer. A whole row stands first and
+# written out, since that is matched in half the time.
+_PAIR = " [0-9A-Fa-f][0-9A-Fa-f]"
+_ROW = re.compile(
+    r"[ \t]*([0-9A-Fa-f]{1,8}):(%s|(?:%s){1,15})(?=  |[ \t]*\r*\Z)" % (16 * _PAIR, _PAIR)
+)
 
 
 class DumpError(ValueError):
@@ -23,11 +34,14 @@ class DumpError(ValueError):
     the file, the line where there is one, and what was expected there."""
 
     def __init__(self, name: str, line: Optional[int], message: str) -> None:
-        where = name if line is None else f"{name}:{line}"
-        super().__init__(f"{where}: {message}")
+        super().__init__(name, line, message)
         self.name = name
         self.line = line
         self.message = message
+
+    def __str__(self) -> str:
+        where = self.name if self.line is None else f"{self.name}:{self.line}"
+        return f"{where}: {self.message}"
 
 
 @dataclass
@@ -43,6 +57,11 @@ class Block:
     def end(self) -> int:
         """The address after its last byte."""
         return self.address + len(self.data)
+
+    @property
+    def is_root_pointer(self) -> bool:
+        """Whether it is the root pointer, by its name or by what it begins with."""
+        return self.name in ROOT_POINTER_NAMES or self.data[:8] == ROOT_POINTER_SIGNATURE
 
     def __str__(self) -> str:
         name = f"{printable(self.name)} " if self.name else ""
@@ -71,78 +90,101 @@ def printable(text: str, most: int = 40) -> str:
 
 
 def looks_like_dump(data: bytes) -> bool:
-    """Whether some line of a file is the heading of a block."""
-    for line in data.decode("latin-1").split("\n"):
-        if "@" in line and _HEADING.match(line.rstrip("\r")):
-            return True
+    """Whether some line of a file is the heading of a block. A text has no zero bytes; in
+    a file that has, a row must follow, since an image of memory may hold anything."""
+    lines = _lines(data)
+    text = b"\0" not in data
+    for at, line in enumerate(lines):
+        if "@" in line and _HEADING.match(line):
+            if text or (at + 1 < len(lines) and _ROW.match(lines[at + 1])):
+                return True
     return False
+
+
+def _lines(data: bytes) -> List[str]:
+    """The lines of a text. Latin-1 gives every byte a character, so that whatever
+    stands in the column of characters beside the bytes can be stepped over."""
+    start = len(_BYTE_ORDER_MARK) if data.startswith(_BYTE_ORDER_MARK) else 0
+    return data[start:].decode("latin-1").split("\n")
 
 
 def parse_acpidump(data: bytes, name: str) -> List[Block]:
     """The blocks of an acpidump text, in the order of the text."""
     blocks: List[Block] = []
-    rows = bytearray()
-    open_block = False
+    rows: List[str] = []
+    length = 0
+    # The block in which a row last had characters beside its bytes.
+    beside: Optional[Block] = None
 
-    def close(line: int) -> None:
-        if not open_block:
-            return
-        block = blocks[-1]
-        if not rows:
-            raise DumpError(
-                name, line, f"expected bytes of block {block}, as in '    0000: 41 50 49 43'"
-            )
-        block.data = bytes(rows)
-        if block.end > END_OF_MEMORY:
-            raise DumpError(
-                name, block.line, f"block {block} has {len(rows)} bytes, which end above 2^64"
-            )
-
-    # Latin-1 gives every byte a character, so that whatever stands in the column
-    # of characters beside the bytes can be stepped over.
-    lines = data.decode("latin-1").split("\n")
+    lines = _lines(data)
     for number, line in enumerate(lines, 1):
-        line = line.rstrip("\r")
         row = _ROW.match(line)
         if row is not None:
-            if not open_block:
+            offset, pairs = row.groups()
+            if not blocks:
                 raise DumpError(
                     name, number, "bytes without a heading; expected a line as 'APIC @ 0x7FF00080'"
                 )
-            if int(row.group(1), 16) != len(rows):
+            if int(offset, 16) != length:
                 raise DumpError(
                     name, number,
-                    f"expected offset {len(rows):04X} and not {row.group(1)};"
+                    f"expected offset {length:04X} and not {offset};"
                     " the line above may be cut",
                 )
-            rows += bytes.fromhex(row.group(2))
+            if len(line) - row.end() > ROW_WIDTH - len(pairs):
+                beside = blocks[-1]
+            elif beside is blocks[-1] or (beside is not None and number == len(lines)):
+                # An editor may have taken away spaces at a line's end, and nothing else.
+                if pairs.replace(" 20", ""):
+                    raise DumpError(
+                        name, number,
+                        "expected characters after the bytes, as in the lines above;"
+                        " this line may be cut",
+                    )
+            rows.append(pairs)
+            length += len(pairs) // len(" 41")
             continue
         if not line.strip() or line.startswith("#"):
             continue
         heading = _HEADING.match(line)
         if heading is not None:
-            close(number)
+            if blocks:
+                _close(blocks[-1], rows, name, number)
             blocks.append(Block(int(heading.group(2), 16), b"", heading.group(1), number))
-            rows = bytearray()
-            open_block = True
+            rows = []
+            length = 0
             continue
         raise DumpError(
             name, number,
             "expected a heading as 'APIC @ 0x7FF00080' or bytes as '    0000: 41 50 49 43',"
             f" got '{printable(line)}'",
         )
-    close(len(lines))
     if not blocks:
         raise DumpError(
             name, 1, "expected an acpidump text, that is, a line as 'APIC @ 0x7FF00080'"
         )
+    _close(blocks[-1], rows, name, len(lines))
     return blocks
+
+
+def _close(block: Block, rows: Sequence[str], name: str, line: int) -> None:
+    """Give a block its bytes, at the line where the next one begins or the text ends."""
+    if not rows:
+        raise DumpError(
+            name, line, f"expected bytes of block {block}, as in '    0000: 41 50 49 43'"
+        )
+    block.data = bytes.fromhex("".join(rows))
+    if block.end > END_OF_MEMORY:
+        raise DumpError(
+            name, block.line,
+            f"block {block} has {len(block.data)} bytes, which end above 2^64",
+        )
 
 
 def parse_map(data: bytes, name: str) -> List[Range]:
     """The ranges of a raw image, a line START LENGTH OFFSET each, in hexadecimal."""
     ranges: List[Range] = []
-    for number, line in enumerate(data.decode("latin-1").split("\n"), 1):
+    for number, line in enumerate(_lines(data), 1):
         line = line.split("#")[0].strip()
         if not line:
             continue
@@ -231,7 +273,7 @@ def layout_of_acpidump(data: bytes, name: str) -> Layout:
             "the dump holds no addresses, so the tables were laid out one after the"
             " other (acpidump -c off keeps the addresses)"
         )
-    pointers = [block for block in blocks if block.name in ROOT_POINTER_NAMES]
+    pointers = [block for block in blocks if block.is_root_pointer]
     if not pointers:
         blocks, note = _with_root_pointer(blocks)
         notes.append(note)
@@ -278,7 +320,7 @@ def _spread(blocks: Sequence[Block]) -> List[Block]:
     reserved: List[Block] = []
     rest: List[Block] = []
     for block in blocks:
-        if block.name in ROOT_POINTER_NAMES or block.data[:4] in (b"RSDT", b"XSDT"):
+        if block.is_root_pointer or block.data[:4] in (b"RSDT", b"XSDT"):
             continue
         goal = told.pop(block.data[:4], END_OF_MEMORY)
         moved = Block(goal, block.data, block.name, block.line)

@@ -9,7 +9,7 @@ from . import answers
 from .answers import FOUND, Refused
 from .dump import Block, Layout, assemble, layout_of_acpidump, parse_map
 from .library import Library
-from .names import FIXED_PART, HEADER_LENGTH, REGISTERS
+from .names import FADT_NUMBERS, FIXED_PART, HEADER_LENGTH, REGISTERS
 from .records import (
     AmlTable,
     FadtFixed,
@@ -25,6 +25,8 @@ from .records import (
     NmiLine,
     NmiSource,
     PciConfigEntry,
+    PlatformInfo,
+    PmTimer,
     Processor,
     Range,
     RootPointer,
@@ -127,10 +129,10 @@ class _Questions:
         number = REGISTERS.index(which) if isinstance(which, str) else which
         return GenericAddress(*self._ask("fadt_register", 5, number))
 
-    def fadt_number(self, which: int) -> int:
-        """A later number of the FADT: 0 FACS address, 1 DSDT address, 2 reset value,
-        3 ARM boot architecture flags, 4 preferred power profile."""
-        return self._ask("fadt_number", 1, which)[0]
+    def fadt_number(self, which: Union[int, str]) -> int:
+        """A number of the FADT, by the library's number or by its name in FADT_NUMBERS."""
+        number = FADT_NUMBERS.index(which) if isinstance(which, str) else which
+        return self._ask("fadt_number", 1, number)[0]
 
     def madt_fixed(self) -> MadtFixed:
         """The fixed part of the MADT."""
@@ -143,8 +145,7 @@ class _Questions:
 
     def interrupt_model(self) -> InterruptModel:
         """The interrupt model, with how many records each of its lists has."""
-        v = self._ask("interrupt_model", 8)
-        return InterruptModel(bool(v[0]), v[1], bool(v[2]), *v[3:])
+        return _model(self._ask("interrupt_model", 8))
 
     def interrupt_lists(self) -> InterruptLists:
         """The five lists of the interrupt model."""
@@ -169,6 +170,10 @@ class _Questions:
     def mailbox(self) -> int:
         """The mailbox address of the first multiprocessor wakeup entry."""
         return self._ask("mailbox", 1)[0]
+
+
+def _model(v: Sequence[int]) -> InterruptModel:
+    return InterruptModel(bool(v[0]), v[1], bool(v[2]), *v[3:])
 
 
 def _records(words: Any, size: int) -> List[List[int]]:
@@ -377,11 +382,11 @@ class Image(_Questions):
             root = (ctypes.c_uint64 * 6)()
             if self._library.ask("tablewalk_root", [*self._subject(), root]) == number:
                 return self._place_of_root()
-            if question == "dsdt":
-                dsdt = (ctypes.c_uint64 * 1)()
-                if not self._library.ask("tablewalk_fadt_number", [*self._subject(), 1, dsdt]):
-                    return f"DSDT at {dsdt[0]:#x}"
-        if question in ("interrupt_model", "interrupt_lists"):
+        if question == "dsdt":
+            dsdt = (ctypes.c_uint64 * 1)()
+            if not self._library.ask("tablewalk_fadt_number", [*self._subject(), 1, dsdt]):
+                return f"DSDT at {dsdt[0]:#x}"
+        if question in ("interrupt_model", "interrupt_lists", "platform"):
             found = (ctypes.c_uint64 * 3)()
             arguments = [*self._subject(), signature_number("APIC"), 44, 0, found]
             if self._library.ask("tablewalk_find", arguments) == FOUND:
@@ -440,6 +445,12 @@ class Image(_Questions):
     def header(self, n: int) -> Table:
         """The n-th valid table of any signature, counted from 0."""
         return Table(*self._ask("header", 3, n))
+
+    def platform(self) -> PlatformInfo:
+        """Power profile, interrupt model and power management timer. A FADT is needed."""
+        v = self._ask("platform", 16)
+        timer = PmTimer(GenericAddress(*v[10:15]), bool(v[15])) if v[9] else None
+        return PlatformInfo(v[0], _model(v[1:9]), timer)
 
     def dsdt(self) -> AmlTable:
         """The AML stream of the DSDT."""

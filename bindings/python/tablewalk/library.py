@@ -82,6 +82,7 @@ FUNCTIONS: Dict[str, Parameters] = {
         _FROM_ROOT + (("signature", U32), ("least", U32), ("n", U64)) + _OUT
     ),
     "tablewalk_header": _FROM_ROOT + (("n", U64),) + _OUT,
+    "tablewalk_platform": _FROM_ROOT + _OUT,
     "tablewalk_dsdt": _FROM_ROOT + _OUT,
     "tablewalk_ssdt": _FROM_ROOT + (("n", U64),) + _OUT,
 }
@@ -113,6 +114,13 @@ def argument_types(name: str) -> List[Any]:
     return types
 
 
+def missing_function(path: Path) -> Optional[str]:
+    """The name of a function that the library at a path does not have, if any. The
+    file is looked at and not loaded: a library that is loaded can not be loaded anew."""
+    data = path.read_bytes()
+    return next((name for name in FUNCTIONS if b"\0%s\0" % name.encode() not in data), None)
+
+
 class Library:
     """libtablewalk.so, loaded, with every function declared.
 
@@ -125,12 +133,16 @@ class Library:
         where = Path(path) if path is not None else SHARED
         if not where.exists():
             raise LibraryMissing(
-                f"{where} is not built; in the checkout's folder run: {HOW_TO_BUILD}"
+                f"{where} is not there; the library is built by {HOW_TO_BUILD}"
+                f" in the folder of Tablewalk's checkout"
             )
         try:
             loaded = ctypes.CDLL(str(where.resolve()))
         except OSError as error:
-            raise LibraryMissing(f"{where} can not be loaded: {error}") from None
+            raise LibraryMissing(
+                f"{where} can not be loaded: {error}"
+                + (f"; remove target/ and run {HOW_TO_BUILD}" if path is None else "")
+            ) from None
         self._functions: Dict[str, Any] = {}
         for name in FUNCTIONS:
             try:

@@ -45,6 +45,19 @@ SPACES: Dict[int, str] = {
     0x7F: "functional fixed hardware",
 }
 
+# Names of spaces that fit into a column; the others do as they are.
+SHORT_SPACES: Dict[str, str] = {
+    "system memory": "memory",
+    "system I/O": "I/O",
+    "PCI configuration": "PCI",
+    "embedded controller": "embedded ctrl.",
+    "PCI BAR target": "PCI BAR",
+    "general purpose I/O": "GPIO",
+    "generic serial bus": "serial bus",
+    "platform communications channel": "PCC",
+    "functional fixed hardware": "fixed hardware",
+}
+
 ACCESS_SIZES: Dict[int, str] = {0: "undefined", 1: "byte", 2: "word", 3: "dword", 4: "qword"}
 
 POWER_PROFILES: Tuple[str, ...] = (
@@ -123,7 +136,7 @@ ARM_BOOT_FLAGS: Tuple[str, ...] = ("PSCI_COMPLIANT", "PSCI_USE_HVC")
 def space_name(number: int) -> str:
     """The name of an address space."""
     if number >= 0xC0:
-        return f"defined by the maker ({number:#04x})"
+        return f"maker's ({number:#04x})"
     return SPACES.get(number, f"unknown ({number:#04x})")
 
 
@@ -142,7 +155,7 @@ def kind_name(number: int) -> str:
 def flag_names(value: int, names: Tuple[str, ...]) -> List[str]:
     """The names of the bits that are set; a bit without a name by its number."""
     return [
-        names[bit] if bit < len(names) else f"bit {bit}"
+        names[bit] if bit < len(names) else f"bit{bit}"
         for bit in range(value.bit_length())
         if value >> bit & 1
     ]

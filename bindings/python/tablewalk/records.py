@@ -2,7 +2,7 @@
 has the field."""
 
 from dataclasses import dataclass
-from typing import Tuple
+from typing import Optional, Tuple
 
 
 @dataclass(frozen=True)
@@ -161,6 +161,24 @@ class InterruptModel:
     interrupt_source_overrides: int
     nmi_sources: int
     local_apic_nmi_lines: int
+
+
+@dataclass(frozen=True)
+class PmTimer:
+    """The power management timer: its register, and whether it has 32 bits and not 24."""
+
+    base: GenericAddress
+    supports_32bit: bool
+
+
+@dataclass(frozen=True)
+class PlatformInfo:
+    """What a kernel asks first. Without a valid MADT nothing is known of the model;
+    `pm_timer` is None where there is none."""
+
+    power_profile: int
+    interrupt_model: InterruptModel
+    pm_timer: Optional[PmTimer]
 
 
 @dataclass(frozen=True)

@@ -8,8 +8,8 @@ from typing import Any, Callable, Dict, List, Optional
 from . import names
 from .answers import FOUND, NO_VALID_TABLE, Refused, meaning_of
 from .dump import printable
-from .image import Image, Listed, TableBytes, text_of
-from .records import ALL_PROCESSORS
+from .image import Image, Listed, text_of
+from .records import ALL_PROCESSORS, GenericAddress
 
 Data = Dict[str, Any]
 
@@ -102,13 +102,16 @@ def _tables(entries: List[Listed]) -> List[Data]:
             row["oem_table_id"] = listed.header.oem_table_id
         row["answer"] = listed.answer
         if listed.answer != FOUND:
-            row["meaning"] = (
-                "no header, or not the whole stated length, is mapped at this address"
-                if listed.answer == NO_VALID_TABLE
-                else meaning_of(listed.answer)
-            )
+            row["meaning"] = at_address(listed.answer)
         rows.append(row)
     return rows
+
+
+def at_address(number: int) -> str:
+    """What a number means of a table at an address: there 12 says what is not mapped."""
+    if number == NO_VALID_TABLE:
+        return "no header, or not the whole stated length, is mapped at this address"
+    return meaning_of(number)
 
 
 def _interrupt_model(image: Image) -> Data:
@@ -167,6 +170,28 @@ def _interrupt_model(image: Image) -> Data:
     return data
 
 
+def _generic(register: GenericAddress) -> Data:
+    return {
+        "address_space": names.space_name(register.address_space),
+        "bit_width": register.bit_width,
+        "bit_offset": register.bit_offset,
+        "access_size": names.ACCESS_SIZES.get(register.access_size, "unknown"),
+        "address": address(register.address),
+    }
+
+
+def _platform(image: Image) -> Data:
+    platform = image.platform()
+    timer = platform.pm_timer
+    return {
+        "power_profile": names.profile_name(platform.power_profile),
+        "interrupt_model_known": platform.interrupt_model.known,
+        "pm_timer": None if timer is None else {
+            "bits": 32 if timer.supports_32bit else 24, **_generic(timer.base),
+        },
+    }
+
+
 def _pci_windows(image: Image) -> Data:
     table = image.find("MCFG", names.FIXED_PART["MCFG"])
     return {
@@ -189,19 +214,8 @@ def _hpet(image: Image) -> Data:
     data["event_timer_block_id"] = f"{hpet.event_timer_block_id:#010x}"
     data["pci_vendor_id"] = f"{hpet.pci_vendor_id:#06x}"
     data["base_address"] = address(hpet.base_address)
-    data["page_protection"] = names.PAGE_PROTECTION[min(hpet.page_protection, 3)]
+    data["page_protection"] = names.PAGE_PROTECTION[hpet.page_protection]
     return data
-
-
-def _register(table: TableBytes, which: int) -> Data:
-    register = table.fadt_register(which)
-    return {
-        "address_space": names.space_name(register.address_space),
-        "bit_width": register.bit_width,
-        "bit_offset": register.bit_offset,
-        "access_size": names.ACCESS_SIZES.get(register.access_size, "unknown"),
-        "address": address(register.address),
-    }
 
 
 def _fadt(image: Image) -> Data:
@@ -209,19 +223,19 @@ def _fadt(image: Image) -> Data:
     fadt = image.view(table)
     fixed = fadt.fadt_fixed()
     data: Data = {"table": address(table.address), "revision": fadt.data[8]}
-    data["power_profile"] = names.profile_name(fadt.fadt_number(4))
+    data["power_profile"] = names.profile_name(fadt.fadt_number("power_profile"))
     data.update(asdict(fixed))
     data["smi_cmd_port"] = address(fixed.smi_cmd_port)
     data["iapc_boot_arch"] = names.flag_names(fixed.iapc_boot_arch, names.IAPC_BOOT_FLAGS)
     data["flags"] = names.flag_names(fixed.flags, names.FLAGS)
-    data["facs_address"] = ask(lambda: {"address": address(fadt.fadt_number(0))})
-    data["dsdt_address"] = ask(lambda: {"address": address(fadt.fadt_number(1))})
-    data["reset_value"] = ask(lambda: {"value": fadt.fadt_number(2)})
+    data["facs_address"] = ask(lambda: {"address": address(fadt.fadt_number("facs_address"))})
+    data["dsdt_address"] = ask(lambda: {"address": address(fadt.fadt_number("dsdt_address"))})
+    data["reset_value"] = ask(lambda: {"value": fadt.fadt_number("reset_value")})
     data["arm_boot_arch"] = ask(
-        lambda: {"flags": names.flag_names(fadt.fadt_number(3), names.ARM_BOOT_FLAGS)}
+        lambda: {"flags": names.flag_names(fadt.fadt_number("arm_boot_arch"), names.ARM_BOOT_FLAGS)}
     )
     data["registers"] = {
-        name: ask(lambda which=which: _register(fadt, which))  # type: ignore[misc]
+        name: ask(lambda which=which: _generic(fadt.fadt_register(which)))  # type: ignore[misc]
         for which, name in enumerate(names.REGISTERS)
     }
     return data
@@ -262,7 +276,7 @@ def of_signature(image: Image, signature: str) -> List[Data]:
                 table = image.table_at(where, signature, least)
                 known[where] = {"answer": FOUND, "offset": table.offset, "length": table.length}
             except Refused as refused:
-                known[where] = {"answer": refused.number, "meaning": refused.meaning}
+                known[where] = {"answer": refused.number, "meaning": at_address(refused.number)}
         rows.append({"entry": k, "address": address(where), **known[where]})
     return rows
 
@@ -270,6 +284,8 @@ def of_signature(image: Image, signature: str) -> List[Data]:
 def why_not(image: Image, signature: str) -> str:
     """Where a 12 comes from, in words."""
     rows = of_signature(image, signature)
+    if not rows and signature in ("DSDT", "FACS"):
+        return f"the root table lists no {signature}; the FADT says where it is"
     if not rows:
         return f"no entry leads to a table {signature}"
     first = rows[0]
@@ -295,6 +311,7 @@ def board(name: str, image: Image) -> Data:
     else:
         entries = image.tables()
         data["tables"] = _tables(entries)
+        data["platform"] = ask(lambda: _platform(image))
         data["interrupt_model"] = ask(lambda: _interrupt_model(image))
         data["pci_windows"] = ask(lambda: _pci_windows(image))
         data["hpet"] = ask(lambda: _hpet(image))
@@ -308,11 +325,13 @@ def board(name: str, image: Image) -> Data:
             ("hpet", "HPET"),
             ("fadt", "FACP"),
         ):
+            if data[part]["answer"] == NO_VALID_TABLE:
+                data[part]["place"] = why_not(image, signature)
+                if part == "fadt" and data["platform"]["answer"] == NO_VALID_TABLE:
+                    data["platform"]["place"] = data[part]["place"]
             needed = part == "interrupt_model" or signature in borne
             if refused is None and needed and data[part]["answer"] != FOUND:
                 refused = {**data[part], "question": part}
-                if refused["answer"] == NO_VALID_TABLE:
-                    refused["place"] = why_not(image, signature)
     if refused is not None:
         data["answer"] = refused["answer"]
         data["meaning"] = refused["meaning"]
@@ -368,6 +387,17 @@ def _field(text: str, width: int) -> str:
     return f"{shown[:width]:<{width}}"
 
 
+def _platform_lines(part: Data, paint: Paint) -> List[str]:
+    lines = ["", paint.head("Platform"), f"  power profile {part['power_profile']}"]
+    timer = part["pm_timer"]
+    if timer is None:
+        return lines + ["  no power management timer"]
+    space = _space(timer["address_space"])
+    return lines + [
+        f"  power management timer of {timer['bits']} bits at {timer['address']} ({space})"
+    ]
+
+
 def _interrupt_lines(part: Data, paint: Paint) -> List[str]:
     lines = ["", paint.head(f"Interrupt model, from the MADT at {part['table']}")]
     if not part["known"]:
@@ -378,31 +408,31 @@ def _interrupt_lines(part: Data, paint: Paint) -> List[str]:
     )
     processors = part["processors"]
     states = [f"{sum(p['state'] == s for p in processors)} {s}" for s in reversed(names.STATES)]
-    lines.append(f"  {_count(len(processors), 'processor')}: {', '.join(states)}")
+    lines.append(f"  {count(len(processors), 'processor')}: {', '.join(states)}")
     lines.append("           uid  controller  state")
     for p in processors:
         boot = "" if p["is_ap"] else ", boot processor"
         lines.append(f"    {p['processor_uid']:>10}  {p['local_apic_id']:>10}  {p['state']}{boot}")
-    lines.append(f"  {_count(len(part['io_apics']), 'I/O controller')}")
+    lines.append(f"  {count(len(part['io_apics']), 'I/O controller')}")
     for c in part["io_apics"]:
         lines.append(
             f"    id {c['id']} at {c['address']}, interrupts from"
             f" {c['global_system_interrupt_base']}"
         )
     overrides = part["interrupt_source_overrides"]
-    lines.append(f"  {_count(len(overrides), 'interrupt source override')}")
+    lines.append(f"  {count(len(overrides), 'interrupt source override')}")
     for o in overrides:
         lines.append(
             f"    source {o['isa_source']} to interrupt {o['global_system_interrupt']},"
             f" polarity {o['polarity']}, trigger {o['trigger_mode']}"
         )
-    lines.append(f"  {_count(len(part['nmi_sources']), 'NMI source')}")
+    lines.append(f"  {count(len(part['nmi_sources']), 'NMI source')}")
     for s in part["nmi_sources"]:
         lines.append(
             f"    interrupt {s['global_system_interrupt']},"
             f" polarity {s['polarity']}, trigger {s['trigger_mode']}"
         )
-    lines.append(f"  {_count(len(part['local_apic_nmi_lines']), 'NMI line')}")
+    lines.append(f"  {count(len(part['local_apic_nmi_lines']), 'NMI line')}")
     for n in part["local_apic_nmi_lines"]:
         whose = (
             "all processors" if n["processor_uid"] == "all" else f"processor {n['processor_uid']}"
@@ -413,7 +443,8 @@ def _interrupt_lines(part: Data, paint: Paint) -> List[str]:
     return lines
 
 
-def _count(number: int, what: str) -> str:
+def count(number: int, what: str) -> str:
+    """So many of something."""
     return f"{number} {what}" + ("" if number == 1 else "s")
 
 
@@ -438,7 +469,7 @@ def _hpet_lines(part: Data, paint: Paint) -> List[str]:
         f"  number {part['hpet_number']} at {part['base_address']}, block id"
         f" {part['event_timer_block_id']}",
         f"  hardware revision {part['hardware_rev']}, PCI vendor {part['pci_vendor_id']},"
-        f" {_count(part['num_comparators'], 'comparator')}",
+        f" {count(part['num_comparators'], 'comparator')}",
         f"  counter of {wide} bits, {legacy}capable of legacy interrupt routing",
         f"  minimum tick {part['clock_tick_unit']}, page protection {part['page_protection']}",
     ]
@@ -447,7 +478,7 @@ def _hpet_lines(part: Data, paint: Paint) -> List[str]:
 def _fadt_lines(part: Data, paint: Paint) -> List[str]:
     title = f"FADT at {part['table']}, revision {part['revision']}"
     lines = ["", paint.head(title)]
-    lines.append(f"  power profile {part['power_profile']}, SCI interrupt {part['sci_interrupt']}")
+    lines.append(f"  SCI interrupt {part['sci_interrupt']}, GPE1 base {part['gpe1_base']}")
     lines.append(
         f"  SMI command port {part['smi_cmd_port']}: enable {part['acpi_enable']:#04x},"
         f" disable {part['acpi_disable']:#04x}, S4BIOS {part['s4bios_req']:#04x}"
@@ -462,8 +493,8 @@ def _fadt_lines(part: Data, paint: Paint) -> List[str]:
     )
     lines.append(
         f"  duty offset {part['duty_offset']}, width {part['duty_width']};"
-        f" alarm: day {part['day_alarm']}, month {part['month_alarm']},"
-        f" century {part['century']}; GPE1 base {part['gpe1_base']}"
+        f" day alarm {part['day_alarm']}, month {part['month_alarm']},"
+        f" century {part['century']}"
     )
     for title, key, value in (
         ("FACS", "facs_address", "address"),
@@ -499,8 +530,7 @@ def _fadt_lines(part: Data, paint: Paint) -> List[str]:
 
 def _space(name: str) -> str:
     """The space in what is left of the line; the JSON has all of it."""
-    short = {"system memory": "memory", "system I/O": "I/O", "PCI configuration": "PCI"}
-    return short.get(name, name)[:15].rstrip()
+    return names.SHORT_SPACES.get(name, name)
 
 
 def _hanging(first: str, text: str) -> List[str]:
@@ -547,6 +577,7 @@ def text_of_board(data: Data, paint: Paint) -> str:
     )
     lines += _table_rows(data["tables"], paint)
     for key, title, render in (
+        ("platform", "Platform", _platform_lines),
         ("interrupt_model", "Interrupt model", _interrupt_lines),
         ("pci_windows", "PCI windows", _pci_lines),
         ("hpet", "HPET", _hpet_lines),
@@ -555,6 +586,9 @@ def text_of_board(data: Data, paint: Paint) -> str:
         part = data[key]
         if part["answer"] == FOUND:
             lines += render(part, paint)
+        elif key != data.get("question") and part.get("place", "").startswith("no entry"):
+            # A board may do without such a table.
+            lines += ["", paint.head(title), f"  none: {part['place']} ({part['answer']})"]
         else:
             lines += _refused_line(title, part, paint)
     dsdt = data["dsdt"]
@@ -563,7 +597,8 @@ def text_of_board(data: Data, paint: Paint) -> str:
         if dsdt["answer"] == FOUND:
             lines.append(f"  DSDT: {dsdt['aml_length']} bytes at {dsdt['aml_address']}")
         else:
-            reason = f"DSDT: {dsdt['answer']}: {dsdt['meaning']}"
+            place = f" ({dsdt['place']})" if "place" in dsdt else ""
+            reason = f"DSDT: {dsdt['answer']}: {dsdt['meaning']}{place}"
             lines += [paint.bad(line) for line in _wrapped(reason, "  ")]
         for ssdt in data["ssdts"]:
             lines.append(f"  SSDT: {ssdt['aml_length']} bytes at {ssdt['aml_address']}")

@@ -21,6 +21,24 @@ pub enum PowerProfile {
     Reserved(u8),
 }
 
+impl PowerProfile {
+    /// From the word of the archive.
+    pub(crate) fn from_word(word: u64) -> PowerProfile {
+        match word {
+            0 => PowerProfile::Unspecified,
+            1 => PowerProfile::Desktop,
+            2 => PowerProfile::Mobile,
+            3 => PowerProfile::Workstation,
+            4 => PowerProfile::EnterpriseServer,
+            5 => PowerProfile::SohoServer,
+            6 => PowerProfile::AppliancePc,
+            7 => PowerProfile::PerformanceServer,
+            8 => PowerProfile::Tablet,
+            other => PowerProfile::Reserved(other as u8),
+        }
+    }
+}
+
 /// A valid FADT. Its plain fields are here; what has a narrow and a wide form, or may lie beyond the
 /// table's end, is a method.
 #[derive(Clone, Copy, Debug)]
@@ -61,18 +79,7 @@ impl<'m> AcpiTable<'m> for Fadt<'m> {
         )?;
         Ok(Fadt {
             table,
-            power_profile: match number(&table, 4)? {
-                0 => PowerProfile::Unspecified,
-                1 => PowerProfile::Desktop,
-                2 => PowerProfile::Mobile,
-                3 => PowerProfile::Workstation,
-                4 => PowerProfile::EnterpriseServer,
-                5 => PowerProfile::SohoServer,
-                6 => PowerProfile::AppliancePc,
-                7 => PowerProfile::PerformanceServer,
-                8 => PowerProfile::Tablet,
-                other => PowerProfile::Reserved(other as u8),
-            },
+            power_profile: PowerProfile::from_word(number(&table, 4)?),
             sci_interrupt: out[0] as u16,
             smi_cmd_port: out[1] as u32,
             acpi_enable: out[2] as u8,

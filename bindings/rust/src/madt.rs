@@ -26,7 +26,7 @@ pub struct Madt<'m> {
 }
 
 /// The model, and how many records each list has.
-struct Survey {
+pub(crate) struct Survey {
     known: bool,
     local_apic_address: u64,
     also_has_legacy_pics: bool,
@@ -35,6 +35,28 @@ struct Survey {
 }
 
 impl Survey {
+    /// From the eight words of the archive.
+    pub(crate) fn from_words(out: &[u64; 8]) -> Survey {
+        let words = |count: u64, record: usize| count as usize * record;
+        Survey {
+            known: out[0] != 0,
+            local_apic_address: out[1],
+            also_has_legacy_pics: out[2] != 0,
+            words: [
+                words(out[3], Processor::WORDS),
+                words(out[4], IoApic::WORDS),
+                words(out[5], InterruptSourceOverride::WORDS),
+                words(out[6], NmiSource::WORDS),
+                words(out[7], NmiLine::WORDS),
+            ],
+        }
+    }
+
+    /// Whether an entry tells the model. Where none does, all lists are empty.
+    pub(crate) fn known(&self) -> bool {
+        self.known
+    }
+
     fn total(&self) -> AcpiResult<usize> {
         let total = self
             .words
@@ -85,7 +107,15 @@ impl<'m> Madt<'m> {
         &self,
         buffer: &'a mut [u32],
     ) -> AcpiResult<(InterruptModel<'a>, Option<ProcessorInfo<'a>>)> {
-        let survey = self.survey()?;
+        self.lists_in(&self.survey()?, buffer)
+    }
+
+    /// The same of a model that is known already.
+    pub(crate) fn lists_in<'a>(
+        &self,
+        survey: &Survey,
+        buffer: &'a mut [u32],
+    ) -> AcpiResult<(InterruptModel<'a>, Option<ProcessorInfo<'a>>)> {
         if buffer.len() < survey.total()? {
             return Err(AcpiError::BufferTooShort);
         }
@@ -122,7 +152,15 @@ impl<'m> Madt<'m> {
     pub fn parse_interrupt_model(
         &self,
     ) -> AcpiResult<(InterruptModel<'static>, Option<ProcessorInfo<'static>>)> {
-        let survey = self.survey()?;
+        self.lists(&self.survey()?)
+    }
+
+    /// The same of a model that is known already.
+    #[cfg(feature = "alloc")]
+    pub(crate) fn lists(
+        &self,
+        survey: &Survey,
+    ) -> AcpiResult<(InterruptModel<'static>, Option<ProcessorInfo<'static>>)> {
         let zeros = |words: usize| -> AcpiResult<alloc::vec::Vec<u32>> {
             let mut list = alloc::vec::Vec::new();
             list.try_reserve_exact(words).map_err(|_| AcpiError::AllocError)?;
@@ -169,19 +207,7 @@ impl<'m> Madt<'m> {
             ask_table!(self.table.bytes(), tablewalk_table_interrupt_model; &mut out),
             Signature::MADT,
         )?;
-        let words = |count: u64, record: usize| count as usize * record;
-        Ok(Survey {
-            known: out[0] != 0,
-            local_apic_address: out[1],
-            also_has_legacy_pics: out[2] != 0,
-            words: [
-                words(out[3], Processor::WORDS),
-                words(out[4], IoApic::WORDS),
-                words(out[5], InterruptSourceOverride::WORDS),
-                words(out[6], NmiSource::WORDS),
-                words(out[7], NmiLine::WORDS),
-            ],
-        })
+        Ok(Survey::from_words(&out))
     }
 
     fn fill(

@@ -220,6 +220,15 @@ extern "C" {
         out: *mut u64,
         out_length: usize,
     ) -> u32;
+    pub fn tablewalk_platform(
+        image: *const u8,
+        image_length: usize,
+        ranges: *const u64,
+        ranges_length: usize,
+        rsdp: u64,
+        out: *mut u64,
+        out_length: usize,
+    ) -> u32;
     pub fn tablewalk_dsdt(
         image: *const u8,
         image_length: usize,

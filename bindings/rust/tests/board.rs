@@ -345,6 +345,29 @@ fn platform_with_a_wrong_entry() {
     );
 }
 
+#[test]
+fn platform_refusals_in_order() {
+    // The timer in an unknown space. A wrong entry goes before it, and it goes before a short buffer.
+    let mut timer = fadt();
+    timer[208] = 11;
+    timer[212] = 1;
+    fix_sum(&mut timer, 9);
+    let mut wrong = madt();
+    wrong[45] = 7;
+    fix_sum(&mut wrong, 9);
+    for (tables_of, number) in [
+        (vec![timer.clone()], 14),
+        (vec![madt(), timer.clone()], 14),
+        (vec![wrong, timer], 15),
+        (vec![madt()], 12),
+        (vec![madt(), fadt()], 17),
+    ] {
+        let (image, ranges) = board_of(&tables_of);
+        let refused = tables(&image, &ranges).platform_info_in(&mut []).unwrap_err();
+        assert_eq!(refused.number(), number);
+    }
+}
+
 /// A kind of table that the crate has no name for.
 struct Oem<'m>(&'m [u8]);
 

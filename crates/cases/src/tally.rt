@@ -77,6 +77,14 @@ pub fn print_sums(tallies: &[u64]) {
     io::write_all(STDOUT_FILENO, b" differ\n");
 }
 
+// Writes that the answers of the second file come next.
+pub fn print_heading() {
+    io::write_all(
+        STDOUT_FILENO,
+        b"answers of the comparison with the crate:\n",
+    );
+}
+
 pub fn print_malformed(at: usize) {
     io::write_all(STDOUT_FILENO, b"no record can be read at ");
     io::print_decimal(STDOUT_FILENO, at as u64);

@@ -81,11 +81,17 @@ pub fn entry(table: &[u8], k: usize) -> KthEntry
     KthEntry::Entry(entry_at(table, 44 + 16 * k))
 }
 
-// Whether an entry has the segment group, and the bus among its buses.
+// Whether an entry has the segment group, and the bus among its buses. Windows most often differ in the first.
 fn includes(e: McfgEntry, segment: u16, bus: u8) -> bool
     ensures { λ r. ⌜ r ≡ includes segment bus e ⌝ }
 {
-    (e.pci_segment_group == segment) & (e.bus_number_start <= bus) & (bus <= e.bus_number_end)
+    if e.pci_segment_group != segment {
+        return false;
+    }
+    if bus < e.bus_number_start {
+        return false;
+    }
+    bus <= e.bus_number_end
 }
 
 // The first entry that includes the bus.

@@ -1,16 +1,16 @@
 -- Laws about places and views: the theorems of specs/Statements, and what the crates above use.
 use Prim.Native.Nat.{ℕ, zero, suc, _+_, _-_, _≤_, _<_, min}
-use mathlib.Core.Path.{_≡_, refl, ap, sym, _∙_}
+use mathlib.Core.Path.{_≡_, refl, ap, ap₂, sym, _∙_}
 use mathlib.Core.List.{List, [], _∷_, _++_}
 use mathlib.Core.Bool.{Bool, true, false, _&&_}
 use mathlib.Core.Logic.{_⊎_, ⊎-elim}
 use native.Mathlib.Omega.{arith}
 use native.Mathlib.Decide.{decLe}
-use lib.ListN.{length, take, drop, set, length-take, length-drop, length-set}
-use lib.Seq.{take-take, take-all, drop-set-lt, drop-set-add, take-set-le}
+use lib.ListN.{length, getD, take, drop, set, length-take, length-drop, length-set}
+use lib.Seq.{take-take, take-all, getD-drop, ext-getD, drop-set-lt, drop-set-add, take-set-le}
 use Rattle.field.specs.Part.{part}
 use Rattle.field.proofs.FirstLaws.{when-hit, when-pass}
-use Rattle.field.proofs.PartLaws.{part-length}
+use Rattle.field.proofs.PartLaws.{part-length, part-at}
 use Rattle.memory.specs.Ranges.{rangesOf, inside, allInside, follows, ordered, right}
 use Rattle.memory.specs.Places.{holds, placeIn, placeOf, bytesAt, viewOf, Elsewhere}
 use Rattle.memory.specs.Statements.{OneHolder, InsideTheSlice, Within, InsideOneRange, ReadableIfHeld, OtherBytesStay}
@@ -61,6 +61,11 @@ record Numbers (r : Range) (p offset room : ℕ) : Type 0 where
 numbers : (r : Range) (p offset room : ℕ) → placeIn r p ≡ At offset room → Numbers r p offset room
 unfolding placeIn
 numbers r p offset room e = record { at = cc; left = cc }
+
+-- And the other way round.
+place-of-numbers : (r : Range) (p offset room : ℕ) → r .offset + (p - r .start) ≡ offset → r .len - (p - r .start) ≡ room → placeIn r p ≡ At offset room
+unfolding placeIn
+place-of-numbers r p offset room at left = ap₂ At at left
 
 pub inside-the-slice : InsideTheSlice
 inside-the-slice size words p offset room e q =
@@ -131,6 +136,43 @@ readable-if-held image words before after r p n e listed h k =
     let held = holds-yes r p h (omega arith) in
     let q = one-holder (length image) words before after r p e listed held in
     omega (arith, view-room image words p (r .offset + (p - r .start)) (r .len - (p - r .start)) e (q ∙ unfold placeIn in refl))
+
+-- All but the first d bytes of a part are the part that begins d later and has d fewer.
+part-drop : (s : List ℕ) (at n d : ℕ) → drop d (part s at n) ≡ part s (at + d) (n - d)
+part-drop s at n d = ext-getD 0 (drop d (part s at n)) (part s (at + d) (n - d)) lengths elements
+  where
+    lengths : length (drop d (part s at n)) ≡ length (part s (at + d) (n - d))
+    lengths = unfold part in simp (length-take, length-drop) (omega arith)
+
+    elements : (i : ℕ) → i < length (drop d (part s at n)) → getD (drop d (part s at n)) i 0 ≡ getD (part s (at + d) (n - d)) i 0
+    elements i b =
+        let l : length (drop d (part s at n)) ≤ n - d = unfold part in simp (length-drop, length-take) (omega arith) in
+        let e : at + (d + i) ≡ at + d + i = omega arith in
+        getD-drop d (part s at n) i 0
+        ∙ part-at s at n (d + i) (omega arith)
+        ∙ ap (λ (k : ℕ). getD s k 0) e
+        ∙ sym (part-at s (at + d) (n - d) i (omega arith))
+
+-- In a right list the range that holds an address holds all of its view, so the view from an address inside is the rest of it.
+pub view-rest : (image words : List ℕ) (p d : ℕ) → right (length image) words ≡ true → d < length (viewOf image words p)
+    → viewOf image words (p + d) ≡ drop d (viewOf image words p)
+view-rest image words p d e h = go (placeOf (rangesOf words) p) refl
+  where
+    go : (place : Place) → placeOf (rangesOf words) p ≡ place → viewOf image words (p + d) ≡ drop d (viewOf image words p)
+    go (At offset room) q =
+        let w = inside-one-range words p offset room q in
+        let r = w .range in
+        let l = view-room image words p offset room e q in
+        let starts = w .starts in
+        let ends = w .ends in
+        let stands = w .stands in
+        let held = holds-yes r (p + d) (omega arith) (omega arith) in
+        let here = place-of-numbers r (p + d) (offset + d) (room - d) (omega arith) (omega arith) in
+        let place = one-holder (length image) words (w .before) (w .after) r (p + d) e (w .listed) held ∙ here in
+        view-at image words (p + d) (offset + d) (room - d) place
+        ∙ sym (part-drop image offset room d)
+        ∙ ap (drop d) (sym (view-at image words p offset room q))
+    go Unmapped q = absurd (omega (arith, ap length (view-none image words p q)))
 
 -- How long a view is depends on how long the slice is, and not on its bytes.
 place-length-same : (image image′ : List ℕ) (place : Place) → length image ≡ length image′

@@ -1,6 +1,7 @@
-// Asks the proved functions every question of a stored file, and compares each answer with the stored one. The stored answers come
-// from tests/reference/reading.py, which reads docs/TABLES.md apart from the definitions that the proofs cite, so a slip in one of
-// the two shows here as a difference. tests/reference/make_cases.py writes the file and says how it is laid out.
+// Asks the proved functions every question of two stored files, and compares each answer with the stored one. The answers of the
+// first come from tests/reference/reading.py, which reads docs/TABLES.md apart from the definitions that the proofs cite, so a slip
+// in one of the two shows here as a difference. tests/reference/make_cases.py writes it and says how such a file is laid out. The
+// answers of the second are those of the comparison with the crate acpi 5.2.0; docs/ORACLE.md says how it is written.
 mod answer;
 mod record;
 mod report;
@@ -161,7 +162,7 @@ fn is_end(file: &[u8], at: usize) -> bool {
     (record::u32_in(file, at) == 0) & (record::past(at, 4) == file.len())
 }
 
-// Room for more than the stored file has. A file that fills it up may be cut off, and then its end is missing.
+// Room for more than a stored file has. A file that fills it up may be cut off, and then its end is missing.
 fn file_buffer() -> [u8; 1048576]
     ensures { λ r. ⌜ 1048576 ≡ length r ⌝ }
 {
@@ -196,12 +197,18 @@ fn read_and_replay(fd: i32) {
     replay_file(&file[..n]);
 }
 
-fn main() {
-    let fd = os::open_read(b"questions");
+// Replays a file that was opened, or says that it could not be.
+fn replay_opened(fd: i32, name: &[u8]) {
     if fd < 0 {
-        os::fail(b"questions");
+        os::fail(name);
         return;
     }
     read_and_replay(fd);
     libc::close(fd);
+}
+
+fn main() {
+    replay_opened(os::open_read(b"questions"), b"questions");
+    report::print_heading();
+    replay_opened(os::open_read(b"oracle"), b"oracle");
 }

@@ -96,8 +96,16 @@ fn print_tallies(tallies: &[u64]) {
 }
 
 fn print_malformed(at: usize) {
-    say(b"questions: no record can be read at ", at as u64);
+    say(b"no record can be read at ", at as u64);
     io::write_all(STDOUT_FILENO, b"\n");
+}
+
+// Writes that the answers of the second file come next.
+pub fn print_heading() {
+    io::write_all(
+        STDOUT_FILENO,
+        b"answers of the comparison with the crate:\n",
+    );
 }
 
 // Writes the tallies, or where the file can't be read.

@@ -1,6 +1,7 @@
-// Asks the proved functions every question of a stored file about single tables and compares each answer with the stored one.
-// tests/tables/make_cases.py writes the file: the values come from a reading of docs/TABLES.md in Python that was written apart from
-// the definitions here and, for the tables in tests/tables/fixtures, from what the disassembler iasl prints of them.
+// Asks the proved functions every question of two stored files about single tables and compares each answer with the stored one.
+// tests/tables/make_cases.py writes the first: the values come from a reading of docs/TABLES.md in Python that was written apart from
+// the definitions here and, for the tables in tests/tables/fixtures, from what the disassembler iasl prints of them. The answers of
+// the second are those of the comparison with the crate acpi 5.2.0; docs/ORACLE.md says how it is written.
 mod answer;
 mod lists;
 
@@ -285,7 +286,7 @@ fn print_result(tallies: &[u64], at: usize, whole: bool) {
     }
 }
 
-// Room for more than the stored file has. A file that fills it up may be cut off, and then its end is missing.
+// Room for more than a stored file has. A file that fills it up may be cut off, and then its end is missing.
 fn file_buffer() -> [u8; 2097152]
     ensures { λ r. ⌜ 2097152 ≡ length r ⌝ }
 {
@@ -334,12 +335,18 @@ fn read_and_replay(fd: i32) {
     replay_file(&file[..n]);
 }
 
-fn main() {
-    let fd = os::open_read(b"tables");
+// Replays a file that was opened, or says that it could not be.
+fn replay_opened(fd: i32, name: &[u8]) {
     if fd < 0 {
-        os::fail(b"tables");
+        os::fail(name);
         return;
     }
     read_and_replay(fd);
     libc::close(fd);
+}
+
+fn main() {
+    replay_opened(os::open_read(b"tables"), b"tables");
+    tally::print_heading();
+    replay_opened(os::open_read(b"oracle"), b"oracle");
 }

@@ -2,7 +2,7 @@
 use Prim.Native.Nat.{ℕ, zero, suc, _+_, _-_, _*_, _/_}
 use mathlib.Core.List.{List, [], _∷_, _++_}
 use mathlib.Core.Bool.{not, _&&_}
-use lib.ListN.{length}
+use lib.ListN.{length, drop}
 use Rattle.field.specs.First.{less, when}
 use Rattle.field.specs.Number.{number}
 use Rattle.field.specs.Choice.{Choice, nthValid}
@@ -39,6 +39,10 @@ searched image words = candidates 0xe0000 0x20000 ++ secondArea (segmentOf (view
 -- what refuses the root pointer at an address
 unfoldable pub refusalAt : List ℕ → List ℕ → ℕ → ℕ
 refusalAt image words p = pointerRefusal (viewOf image words p)
+
+-- what refuses the root pointer at an address of the view v, which begins at start
+unfoldable pub refusalIn : List ℕ → ℕ → ℕ → ℕ
+refusalIn v start p = pointerRefusal (drop (p - start) v)
 
 unfoldable pub found : Choice → Search
 found nothing = Refused 18

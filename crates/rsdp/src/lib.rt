@@ -1,13 +1,14 @@
 // The root pointer: whether one stands at an address and what it says, and the search for it.
 ghost use mathlib.Core.Path.{_≡_};
 ghost use mathlib.Core.Bool.{true};
-ghost use Prim.Native.Nat.{_+_, _*_, _^_, _≤_};
-ghost use lib.ListN.{length};
+ghost use Prim.Native.Nat.{_+_, _-_, _*_, _/_, _^_, _≤_, min};
+ghost use lib.Dec.{eqb};
+ghost use lib.ListN.{length, drop};
 ghost use Rattle.field.specs.Choice.{nthValid};
 ghost use Rattle.memory.specs.Ranges.{right};
 ghost use Rattle.memory.specs.Places.{viewOf};
 ghost use Rattle.rsdp.specs.Pointer.{neededOf, summedOf, wrongSum, pointerRefusal, pointerOf, rootPointerOf};
-ghost use Rattle.rsdp.specs.Search.{everySixteen, segmentOf, secondArea, refusalAt, found};
+ghost use Rattle.rsdp.specs.Search.{everySixteen, segmentOf, secondArea, refusalAt, refusalIn, found};
 ghost use Rattle.rsdp.specs.Asked.{rootPointerAt, searchAsked};
 
 // "RSD PTR " with its trailing blank, lowest byte first.
@@ -168,7 +169,50 @@ pub fn root_pointer_at(image: &[u8], ranges: &[u64], address: u64) -> RootPointe
     root_pointer(memory::view(image, ranges, address))
 }
 
-// The first valid root pointer of an area.
+// Whether a valid root pointer stands at an offset of the view. Nearly everywhere the signature alone says no.
+fn is_valid(view: &[u8], at: usize) -> bool
+    requires { ⌜ at + 20 ≤ length (now view) ⌝ }
+    ensures { λ r. ⌜ r ≡ eqb (pointerRefusal (drop at (now (view .entry)))) 0 ⌝ }
+{
+    if field::u64_at(view, at) != RSD_PTR {
+        return false;
+    }
+    refusal(&view[at..]) == 0
+}
+
+// How many places, 16 bytes apart and so many at most, have 20 bytes or more in a view of so many bytes.
+fn places_in(bytes: usize, most: u64) -> u64
+    ensures { λ r. ⌜ r ≡ min most ((bytes - 4) / 16) ⌝ }
+{
+    if bytes < 20 {
+        return 0;
+    }
+    let n = (bytes as u64 - 4) / 16;
+    if most < n {
+        return most;
+    }
+    n
+}
+
+// The first valid root pointer at so many places of a view that begins at an address.
+fn search_view(view: &[u8], start: u64, places: u64) -> Search
+    requires { ⌜ 16 * places ≤ length (now view) - 4 ⌝ }
+    requires { ⌜ start + 16 * places ≤ 2 ^ 32 ⌝ }
+    ensures { λ r. ⌜ r ≡ found (nthValid (refusalIn (now (view .entry)) start) 0 (everySixteen places start)) ⌝ }
+{
+    let mut k = 0;
+    while k < places {
+        let into = 16 * k;
+        if is_valid(view, into as usize) {
+            return Search::At(start + into);
+        }
+        k += 1;
+    }
+    Search::Refused(NOT_FOUND)
+}
+
+// The first valid root pointer of an area. A range is looked up once for all of its places at which 20 bytes can be read;
+// where fewer can, no root pointer stands.
 fn search_area(image: &[u8], ranges: &[u64], area: Area) -> Search
     requires { ⌜ right (length (now image)) (now ranges) ≡ true ⌝ }
     requires { ⌜ area .start + 16 * area .places ≤ 2 ^ 32 ⌝ }
@@ -177,11 +221,18 @@ fn search_area(image: &[u8], ranges: &[u64], area: Area) -> Search
     let mut p = area.start;
     let mut left = area.places;
     while 0 < left {
-        if refusal(memory::view(image, ranges, p)) == 0 {
-            return Search::At(p);
+        let view = memory::view(image, ranges, p);
+        let n = places_in(view.len(), left);
+        if n == 0 {
+            p += 16;
+            left -= 1;
+            continue;
         }
-        p += 16;
-        left -= 1;
+        if let Search::At(q) = search_view(view, p, n) {
+            return Search::At(q);
+        }
+        p += 16 * n;
+        left -= n;
     }
     Search::Refused(NOT_FOUND)
 }

@@ -37,7 +37,7 @@ use Rattle.tables.specs.declared.Found.{Found}
 
 -- All there is to show is that two images that agree have the same answer: one with another byte changed is as long and agrees
 -- on the named bytes, and a byte that no range holds is outside all pieces.
-pub only-named : {A : Type 0} (answer : List ℕ → List ℕ → A) (named : List ℕ → List ℕ → List Piece)
+pub only-named {ℓ} : {A : Type ℓ} (answer : List ℕ → List ℕ → A) (named : List ℕ → List ℕ → List Piece)
     → ((image image′ words : List ℕ) → length image ≡ length image′ → All (AgreeOn image image′ words) (named image words)
     → answer image words ≡ answer image′ words)
     → OnlyNamed answer named

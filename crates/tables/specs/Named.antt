@@ -53,7 +53,7 @@ namedFind image words rsdp wanted least n =
     namedRoot image words rsdp ++ namedListed image words wanted least n (rootOf image words rsdp)
 
 -- An answer to a question about an image depends on the named bytes, and on no other.
-pub record OnlyNamed {A : Type 0} (answer : List ℕ → List ℕ → A) (named : List ℕ → List ℕ → List Piece) : Type 0 where
+pub record OnlyNamed {ℓ} {A : Type ℓ} (answer : List ℕ → List ℕ → A) (named : List ℕ → List ℕ → List Piece) : Type ℓ where
   -- two images of one length that agree on the named bytes have the same answer
   pub agreed : (image image′ words : List ℕ) → length image ≡ length image′ → All (AgreeOn image image′ words) (named image words)
       → answer image words ≡ answer image′ words

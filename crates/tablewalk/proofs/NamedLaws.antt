@@ -1,4 +1,4 @@
--- Only the named bytes count in a question about a table that is found first.
+-- Only the named bytes count in the questions about tables that are found first.
 use Prim.Native.Nat.{ℕ}
 use mathlib.Core.Path.{_≡_, refl, ap, sym, _∙_, subst}
 use mathlib.Core.List.{List, _++_}
@@ -8,11 +8,12 @@ use Rattle.field.specs.Choice.{Choice, nthValid, lookedAt, All}
 use Rattle.field.specs.Choice.Choice.{nothing, chosen}
 use Rattle.field.specs.Choice.All.{none, with}
 use Rattle.field.proofs.FirstLaws.{when-pass}
-use Rattle.field.proofs.ChoiceLaws.{all-right, all-chosen, chosen-is-nth}
+use Rattle.field.proofs.ChoiceLaws.{all-left, all-right, all-chosen, chosen-is-nth}
 use Rattle.memory.specs.Places.{viewOf}
 use Rattle.memory.specs.Pieces.{AgreeOn}
-use Rattle.sdt.specs.Header.{wholeOf}
+use Rattle.sdt.specs.Header.{headerSize, wholeOf}
 use Rattle.sdt.specs.declared.Wanted.{Wanted}
+use Rattle.sdt.specs.declared.Wanted.the-variants.{Signature}
 use Rattle.sdt.proofs.ValidLaws.{valid-sums}
 use Rattle.tables.specs.Root.{rootOf, listed}
 use Rattle.tables.specs.Tables.{tableIn, refusalAt, found, nthIn, nthTable}
@@ -20,10 +21,19 @@ use Rattle.tables.specs.Named.{namedTable, namedRoot, namedListed, namedFind}
 use Rattle.tables.specs.declared.Root.{Root}
 use Rattle.tables.specs.declared.Found.{Found}
 use Rattle.tables.specs.declared.Table.{Table}
-use Rattle.tables.proofs.NamedLaws.{only-named, first, all-of-each, same-whole, find-named}
+use Rattle.tables.proofs.NamedLaws.{only-named, first, all-of-each, same-whole, table-named, find-named}
+use Rattle.fadt.specs.Values.{dsdtAddress}
+use Rattle.fadt.specs.declared.Value.{Value}
+use Rattle.platform.specs.Model.{modelOf}
+use Rattle.platform.specs.Fill.{Filled}
+use Rattle.platform.specs.declared.Answer.{Answer as PlatformAnswer}
 use Rattle.tablewalk.specs.Answer.{Answer}
-use Rattle.tablewalk.specs.Asked.{askedOf}
-use Rattle.tablewalk.specs.Statements.{AskedNamed}
+use Rattle.tablewalk.specs.Answer.Answer.{refused}
+use Rattle.tablewalk.specs.Asked.{amlAnswer, dsdtAnswer, askedOf}
+use Rattle.tablewalk.specs.Lists.{Untouched, ListsAsked}
+use Rattle.tablewalk.specs.Platform.{unknownModel, modelPart, platformOf, platformAnswer}
+use Rattle.tablewalk.specs.Named.{namedAt, namedBehind, namedDsdt, namedPlatform}
+use Rattle.tablewalk.specs.Statements.{AskedNamed, ListsNamed, DsdtNamed, PlatformNamed}
 
 -- Two images of one length, and a table that was found in the first.
 module _ (image image′ words : List ℕ) (l : length image ≡ length image′) (wanted : Wanted) (least n : ℕ) where
@@ -63,17 +73,61 @@ module _ (image image′ words : List ℕ) (l : length image ≡ length image′
       go (Root.Table root) q same tables = whole-chosen (listed image words root) t (all-of-each (λ p. namedTable image words p wanted) _ tables) same
       go (Root.Refused k) q same tables = absurd (let z : _≡_ {A = ℕ} 0 1 = cc in omega arith)
 
--- The same table is found, and its bytes are the same, so the question about them is answered the same.
+-- What is answered of a table that was found, and of a refusal, by the table's bytes and by the refusal alone: the same table is
+-- found, and its bytes are the same, so the answer is.
+found-agreed {ℓ} : {A : Type ℓ} (part : List ℕ → List ℕ → Found → A) (byTable : List ℕ → A) (byRefusal : ℕ → A)
+    → ((image words : List ℕ) (t : Table) → part image words (Found.Table t) ≡ byTable (wholeOf (viewOf image words (t .address))))
+    → ((image words : List ℕ) (k : ℕ) → part image words (Found.Refused k) ≡ byRefusal k)
+    → (rsdp : ℕ) (wanted : Wanted) (least n : ℕ) (image image′ words : List ℕ) → length image ≡ length image′
+    → All (AgreeOn image image′ words) (namedFind image words rsdp wanted least n)
+    → part image words (nthTable image words rsdp wanted least n) ≡ part image′ words (nthTable image′ words rsdp wanted least n)
+found-agreed part byTable byRefusal table refusal rsdp wanted least n image image′ words l agree =
+    go (nthTable image words rsdp wanted least n) refl
+    ∙ ap (part image′ words) (find-named rsdp wanted least n .agreed image image′ words l agree)
+  where
+    go : (f : Found) → nthTable image words rsdp wanted least n ≡ f → part image words f ≡ part image′ words f
+    go (Found.Table t) e =
+        table image words t ∙ ap byTable (whole-found image image′ words l wanted least n rsdp t agree e) ∙ sym (table image′ words t)
+    go (Found.Refused k) e = refusal image words k ∙ sym (refusal image′ words k)
+
 pub asked-named : AskedNamed
 unfolding askedOf
-asked-named rsdp wanted least n ask = only-named _ _ agreed
-  where
-    agreed : (image image′ words : List ℕ) → length image ≡ length image′ → All (AgreeOn image image′ words) (namedFind image words rsdp wanted least n)
-        → askedOf image words ask (nthTable image words rsdp wanted least n) ≡ askedOf image′ words ask (nthTable image′ words rsdp wanted least n)
-    agreed image image′ words l agree =
-        go (nthTable image words rsdp wanted least n) refl
-        ∙ ap (askedOf image′ words ask) (find-named rsdp wanted least n .agreed image image′ words l agree)
-      where
-        go : (f : Found) → nthTable image words rsdp wanted least n ≡ f → askedOf image words ask f ≡ askedOf image′ words ask f
-        go (Found.Table t) e = ap ask (whole-found image image′ words l wanted least n rsdp t agree e)
-        go (Found.Refused k) e = refl
+asked-named rsdp wanted least n ask =
+    only-named _ _
+    (found-agreed (λ image words. askedOf image words ask) ask refused (λ image words t. refl) (λ image words k. refl) rsdp wanted least n)
+
+pub lists-named : ListsNamed
+lists-named rsdp wanted least n =
+    only-named _ _ (found-agreed ListsAsked Filled Untouched (λ image words t. refl) (λ image words k. refl) rsdp wanted least n)
+
+-- The table at the DSDT's address is the same, and so is what is answered of it.
+module _ (image image′ words : List ℕ) (l : length image ≡ length image′) where
+  dsdt-agreed : (v : Value) → All (AgreeOn image image′ words) (namedAt image words v) → dsdtAnswer image words v ≡ dsdtAnswer image′ words v
+  unfolding dsdtAnswer namedAt
+  dsdt-agreed (Value.Found p) agree = ap amlAnswer (table-named p (Signature 0x54445344) headerSize .agreed image image′ words l agree)
+  dsdt-agreed (Value.Refused n) agree = refl
+
+  behind-agreed : (f : Found) → All (AgreeOn image image′ words) (namedBehind image words f)
+      → askedOf image words (λ (t : List ℕ). dsdtAnswer image words (dsdtAddress t)) f ≡ askedOf image words (λ (t : List ℕ). dsdtAnswer image′ words (dsdtAddress t)) f
+  unfolding askedOf namedBehind
+  behind-agreed (Found.Table t) agree = dsdt-agreed (dsdtAddress (wholeOf (viewOf image words (t .address)))) agree
+  behind-agreed (Found.Refused n) agree = refl
+
+pub dsdt-named : DsdtNamed
+unfolding namedDsdt
+dsdt-named rsdp =
+    only-named _ _
+    (λ image image′ words l agree.
+    behind-agreed image image′ words l _ (all-right (namedFind image words rsdp (Signature 0x50434146) 116 0) _ agree)
+    ∙ asked-named rsdp (Signature 0x50434146) 116 0 (λ (t : List ℕ). dsdtAnswer image′ words (dsdtAddress t)) .agreed image image′ words l (all-left _ _ agree))
+
+-- The same FADT and the same model.
+pub platform-named : PlatformNamed
+unfolding platformAnswer modelPart namedPlatform
+platform-named rsdp =
+    only-named _ _
+    (λ image image′ words l agree.
+    asked-named rsdp (Signature 0x50434146) 116 0 (platformOf (modelPart image words (nthTable image words rsdp (Signature 0x43495041) 44 0))) .agreed image image′ words l (all-left _ _ agree)
+    ∙ ap (λ model. askedOf image′ words (platformOf model) (nthTable image′ words rsdp (Signature 0x50434146) 116 0))
+    (found-agreed modelPart modelOf (λ k. PlatformAnswer.Model unknownModel) (λ image words t. refl) (λ image words k. refl) rsdp (Signature 0x43495041) 44 0 image image′ words l
+    (all-right (namedFind image words rsdp (Signature 0x50434146) 116 0) _ agree)))

@@ -2,5 +2,8 @@
 pub mod Answer
 pub mod Asked
 pub mod Fadt
+pub mod Inner
 pub mod Lists
+pub mod Named
+pub mod Platform
 pub mod Statements

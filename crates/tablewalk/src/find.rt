@@ -35,9 +35,9 @@ const HPET: u32 = 0x54455048;
 
 const MCFG: u32 = 0x4746434d;
 
-const FACP: u32 = 0x50434146;
+pub const FACP: u32 = 0x50434146;
 
-const APIC: u32 = 0x43495041;
+pub const APIC: u32 = 0x43495041;
 
 // As `tablewalk_table_hpet`, of the first valid table of its signature.
 #[no_mangle]

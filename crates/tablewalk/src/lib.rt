@@ -2,6 +2,7 @@
 // value; the values go to a lent buffer, and a refusal writes nothing.
 mod find;
 mod image;
+mod platform_info;
 mod put;
 mod report;
 mod table;

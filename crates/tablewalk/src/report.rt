@@ -30,7 +30,7 @@ ghost use mathlib.Core.List.{[], _∷_};
 ghost use Rattle.tables.specs.declared.Found.{Found};
 use crate::put;
 
-fn bit_of(b: bool) -> u64
+pub fn bit_of(b: bool) -> u64
     ensures { λ r. ⌜ r ≡ bit b ⌝ }
 {
     if b {
@@ -59,7 +59,7 @@ fn protection_number(protection: hpet::PageProtection) -> u64
     }
 }
 
-fn profile_number(profile: fadt::PowerProfile) -> u64
+pub fn profile_number(profile: fadt::PowerProfile) -> u64
     ensures { λ r. ⌜ r ≡ profileNumber profile ⌝ }
 {
     match profile {

@@ -10,7 +10,7 @@ ghost use Rattle.platform.specs.Mailbox.{mailboxOf};
 ghost use Rattle.platform.specs.Fill.{Filled};
 ghost use Rattle.tablewalk.specs.Answer.{Reported};
 ghost use Rattle.tablewalk.specs.Asked.{hpetAnswer, countAnswer, windowAnswer, pciAnswer, fixedAnswer, madtAnswer, madtEntryAnswer, modelAnswer, mailboxAnswer};
-ghost use Rattle.tablewalk.specs.Fadt.{registerOf, valueOf, registerAnswer, numberAnswer};
+ghost use Rattle.tablewalk.specs.Fadt.{registerOf, noValue, valueOf, registerAnswer, numberAnswer};
 ghost use mathlib.Core.Path.{_≡_};
 use crate::report;
 
@@ -157,6 +157,16 @@ pub fn fadt_register(table: &[u8], which: u32) -> address::Generic
     fadt::nth_register_block(table, which)
 }
 
+// No value has the number that was asked: 13, and 11 of a slice that is no FADT, which every question about one is refused with.
+fn no_value(table: &[u8]) -> fadt::Value
+    ensures { λ r. ⌜ r ≡ noValue (now (table .entry)) ⌝ }
+{
+    match fadt::power_profile(table) {
+        fadt::Preferred::Refused(n) => fadt::Value::Refused(n),
+        fadt::Preferred::Profile(_) => fadt::Value::Refused(13),
+    }
+}
+
 // The single numbers but the profile; no other number names one.
 pub fn fadt_value(table: &[u8], which: u32) -> fadt::Value
     ensures { λ r. ⌜ r ≡ valueOf (now (table .entry)) which ⌝ }
@@ -173,5 +183,5 @@ pub fn fadt_value(table: &[u8], which: u32) -> fadt::Value
     if which == 3 {
         return fadt::arm_boot_arch(table);
     }
-    fadt::Value::Refused(13)
+    no_value(table)
 }

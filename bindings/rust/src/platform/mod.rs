@@ -4,9 +4,12 @@ pub mod interrupt;
 
 use crate::{
     address::GenericAddress,
+    error::found,
     fadt::Fadt,
     list::{sealed::Sealed, List, Record},
-    madt::Madt,
+    madt::{Madt, Survey},
+    memory::ask,
+    sdt::Signature,
     AcpiResult, AcpiTables, InterruptModel, PowerProfile,
 };
 
@@ -95,31 +98,43 @@ pub struct PlatformInfo<'a> {
     pub pm_timer: Option<PmTimer>,
 }
 
+/// The model with its lists, and the processors.
+type Lists<'a> = AcpiResult<(InterruptModel<'a>, Option<ProcessorInfo<'a>>)>;
+
 impl<'a> PlatformInfo<'a> {
     /// Reads FADT and MADT. A FADT is needed; without a valid MADT the model is unknown.
     ///
     /// The lists go to `buffer`: [`Madt::interrupt_words`] says how many words they need, and
-    /// [`BufferTooShort`](crate::AcpiError::BufferTooShort) that it has fewer.
+    /// [`BufferTooShort`](crate::AcpiError::BufferTooShort) that it has fewer. An error of the FADT goes
+    /// before one of the MADT, this before one of the timer, and this before that of the buffer.
     pub fn new_in(tables: &AcpiTables<'_>, buffer: &'a mut [u32]) -> AcpiResult<PlatformInfo<'a>> {
-        PlatformInfo::of(tables, |madt| madt.parse_interrupt_model_in(buffer))
+        PlatformInfo::of(tables, |madt, survey| madt.lists_in(survey, buffer))
     }
 
+    /// One question answers all but the lists, and these are asked of the MADT where the model is known.
     fn of<'m>(
         tables: &AcpiTables<'m>,
-        parse: impl FnOnce(Madt<'m>) -> AcpiResult<(InterruptModel<'a>, Option<ProcessorInfo<'a>>)>,
+        lists: impl FnOnce(&Madt<'m>, &Survey) -> Lists<'a>,
     ) -> AcpiResult<PlatformInfo<'a>> {
-        let fadt = tables.find_table::<Fadt>()?;
-        let power_profile = fadt.power_profile();
-        let (interrupt_model, processor_info) = match tables.find_table::<Madt>() {
-            Ok(madt) => parse(madt)?,
-            Err(_) => (InterruptModel::Unknown, None),
+        let mut out = [0; 16];
+        let number = ask!(&tables.memory(), tablewalk_platform, tables.rsdp_address() as u64; &mut out);
+        found(number, Signature::FADT)?;
+        let [profile, m0, m1, m2, m3, m4, m5, m6, m7, there, t0, t1, t2, t3, t4, wide] = out;
+        let survey = Survey::from_words(&[m0, m1, m2, m3, m4, m5, m6, m7]);
+        let (interrupt_model, processor_info) = if survey.known() {
+            lists(&tables.find_table::<Madt>()?, &survey)?
+        } else {
+            (InterruptModel::Unknown, None)
         };
-        let pm_timer = PmTimer::new(&fadt)?;
+        let timer = PmTimer {
+            base: GenericAddress::from_words(&[t0, t1, t2, t3, t4]),
+            supports_32bit: wide != 0,
+        };
         Ok(PlatformInfo {
-            power_profile,
+            power_profile: PowerProfile::from_word(profile),
             interrupt_model,
             processor_info,
-            pm_timer,
+            pm_timer: (there != 0).then_some(timer),
         })
     }
 }
@@ -128,6 +143,6 @@ impl<'a> PlatformInfo<'a> {
 impl PlatformInfo<'static> {
     /// The same with owned lists.
     pub fn new(tables: &AcpiTables<'_>) -> AcpiResult<PlatformInfo<'static>> {
-        PlatformInfo::of(tables, |madt| madt.parse_interrupt_model())
+        PlatformInfo::of(tables, |madt, survey| madt.lists(survey))
     }
 }

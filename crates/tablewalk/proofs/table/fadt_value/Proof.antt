@@ -34,9 +34,12 @@ returns-4 : tie.Need-returns-4
 unfolding valueOf
 returns-4 c = c .arm-boot-arch .ensures ∙ other _ 0 _ (c .before .before .before .before .if1 .left) (other _ 1 _ (c .before .before .before .if2 .left) (other _ 2 _ (c .before .before .if3 .left) (named _ 3 _ _ (c .before .if4 .taken))))
 
+no-value-requires : tie.Need-no-value-requires
+no-value-requires c κs = search needs
+
 returns-5 : tie.Need-returns-5
 unfolding valueOf
-returns-5 c = other _ 0 _ (c .before .before .before .if1 .left) (other _ 1 _ (c .before .before .if2 .left) (other _ 2 _ (c .before .if3 .left) (other _ 3 _ (c .if4 .left) refl)))
+returns-5 c = c .no-value .ensures ∙ other _ 0 _ (c .before .before .before .before .if1 .left) (other _ 1 _ (c .before .before .before .if2 .left) (other _ 2 _ (c .before .before .if3 .left) (other _ 3 _ (c .before .if4 .left) refl)))
 
 pub fadt-value-spec : {M : Type 1} → statement M
 fadt-value-spec =
@@ -50,4 +53,5 @@ fadt-value-spec =
     returns-3
     arm-boot-arch-requires
     returns-4
+    no-value-requires
     returns-5)
