@@ -23,6 +23,9 @@ from make_examples import dump_text
 ROOT = Path(__file__).resolve().parents[2]
 SEED = 4000
 
+# How many boards are written if nobody says.
+BOARDS = 4000
+
 
 @dataclass
 class Board:
@@ -174,7 +177,7 @@ def main():
     if len(words) == 2 and words[0] == "--time":
         time_all(Path(words[1]))
     elif 1 <= len(words) <= 2 and not words[0].startswith("-"):
-        write(Path(words[0]), int(words[1]) if len(words) == 2 else 4000)
+        write(Path(words[0]), int(words[1]) if len(words) == 2 else BOARDS)
     else:
         sys.exit(__doc__)
 

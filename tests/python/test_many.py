@@ -1,7 +1,8 @@
-"""A summary of some hundred boards in one command, held to how the boards were made.
+"""A summary of many boards in one command, held to how the boards were made.
 
-many.py writes them, 4,000 for the benchmark and some hundred here. It knows of each
-board what it put in and which bit it turned, so nothing here asks another reader.
+many.py writes them, 4,000 for the benchmark and for one test here, and some hundred
+for the others. It knows of each board what it put in and which bit it turned, so
+nothing here asks another reader.
 """
 
 import csv
@@ -48,6 +49,34 @@ def expected(board):
     return {0 if name == "SSDT" or place < 4 else 12}, [*listed, *counts]
 
 
+def check_csv(case, dumps, boards):
+    """The summary of a folder, board by board, is what its boards were made of."""
+    result = run_script("summary", "--csv", str(dumps))
+    case.assertEqual((result.status, result.err), (1, ""))
+    rows = list(csv.reader(io.StringIO(result.out)))
+    case.assertEqual(rows[0], list(command.SUMMARY_COLUMNS))
+    # Nothing is lost, nothing is twice, and all of it is in the order of the names.
+    case.assertEqual([row[0] for row in rows[1:]], [str(path) for path, _ in boards])
+    faults = set()
+    for row, (path, board) in zip(rows[1:], boards):
+        answers, columns = expected(board)
+        case.assertIn(int(row[8]), answers, path)
+        case.assertEqual(row[1:8], [str(column) for column in columns], path)
+        case.assertEqual(row[9] == "", int(row[8]) == 0, path)
+        if board.fault is not None:
+            faults.add(board.fault[0])
+    # The boards are not all alike: else this would say little.
+    case.assertLessEqual({"RSDP", "XSDT", "APIC", "MCFG", "HPET", "FACP", "SSDT"}, faults)
+
+
+@needs_library
+class AsManyAsThereAre(InFolder):
+    """As many boards as there are revisions of mainboards, in one command."""
+
+    def test_csv(self):
+        check_csv(self, self.folder, many.write(self.folder, many.BOARDS))
+
+
 @needs_library
 class Many(InFolder):
     @classmethod
@@ -67,22 +96,7 @@ class Many(InFolder):
             self.boards.append((self.dumps / path.name, board))
 
     def test_csv(self):
-        result = run_script("summary", "--csv", str(self.dumps))
-        self.assertEqual((result.status, result.err), (1, ""))
-        rows = list(csv.reader(io.StringIO(result.out)))
-        self.assertEqual(rows[0], list(command.SUMMARY_COLUMNS))
-        # Nothing is lost, nothing is twice, and all of it is in the order of the names.
-        self.assertEqual([row[0] for row in rows[1:]], [str(path) for path, _ in self.boards])
-        faults = set()
-        for row, (path, board) in zip(rows[1:], self.boards):
-            answers, columns = expected(board)
-            self.assertIn(int(row[8]), answers, path)
-            self.assertEqual(row[1:8], [str(column) for column in columns], path)
-            self.assertEqual(row[9] == "", int(row[8]) == 0, path)
-            if board.fault is not None:
-                faults.add(board.fault[0])
-        # The boards are not all alike: else this would say little.
-        self.assertLessEqual({"RSDP", "XSDT", "APIC", "MCFG", "HPET", "FACP", "SSDT"}, faults)
+        check_csv(self, self.dumps, self.boards)
 
     def test_text_and_counts(self):
         (self.dumps / "board-0200a.dump").write_bytes(b"no dump")
