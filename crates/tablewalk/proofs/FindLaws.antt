@@ -19,12 +19,12 @@ use Rattle.tables.specs.declared.RootTable.{RootTable}
 use Rattle.tables.specs.declared.Found.{Found}
 use Rattle.tables.specs.declared.Table.{Table}
 use Rattle.tables.proofs.EntryLaws.{rooted, valid-header}
-use Rattle.tablewalk.specs.Answer.{Answer, Reported}
-use Rattle.tablewalk.specs.Answer.Answer.{refused}
+use Rattle.answers.specs.Answer.{Answer, Reported}
+use Rattle.answers.specs.Answer.Answer.{refused}
 use Rattle.tablewalk.specs.Asked.{askedOf}
 use Rattle.tablewalk.specs.Lists.{ListsAsked}
 use Rattle.platform.specs.Fill.{Filled}
-use Rattle.tablewalk.proofs.AnswerLaws.{handed-on, same-answer}
+use Rattle.answers.proofs.AnswerLaws.{handed-on, same-answer}
 
 pub record Mapped (image words : List ℕ) (address : ℕ) : Type 0 where
   pub ranged : right (length image) words ≡ true

@@ -1,4 +1,3 @@
--- Laws about answers and buffers.
-pub mod AnswerLaws
+-- Laws about tables that are found, and about the bytes that count.
 pub mod FindLaws
 pub mod NamedLaws

@@ -27,9 +27,10 @@ use Rattle.fadt.specs.declared.Value.{Value}
 use Rattle.platform.specs.Model.{modelOf}
 use Rattle.platform.specs.Fill.{Filled}
 use Rattle.platform.specs.declared.Answer.{Answer as PlatformAnswer}
-use Rattle.tablewalk.specs.Answer.{Answer}
-use Rattle.tablewalk.specs.Answer.Answer.{refused}
-use Rattle.tablewalk.specs.Asked.{amlAnswer, dsdtAnswer, askedOf}
+use Rattle.answers.specs.Answer.{Answer}
+use Rattle.answers.specs.Answer.Answer.{refused}
+use Rattle.answers.specs.Words.{amlAnswer}
+use Rattle.tablewalk.specs.Asked.{dsdtAnswer, askedOf}
 use Rattle.tablewalk.specs.Lists.{Untouched, ListsAsked}
 use Rattle.tablewalk.specs.Platform.{unknownModel, modelPart, platformOf, platformAnswer}
 use Rattle.tablewalk.specs.Named.{namedAt, namedBehind, namedDsdt, namedPlatform}

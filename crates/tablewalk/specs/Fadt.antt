@@ -10,8 +10,8 @@ use Rattle.fadt.specs.Registers.{resetRegister, sleepControlRegister, sleepStat
 use Rattle.fadt.specs.Values.{facsAddress, dsdtAddress, resetValue, armBootArch}
 use Rattle.fadt.specs.Profiles.{powerProfile}
 use Rattle.fadt.specs.declared.Value.{Value}
-use Rattle.tablewalk.specs.Answer.{Answer}
-use Rattle.tablewalk.specs.Asked.{genericAnswer, valueAnswer, profileAnswer}
+use Rattle.answers.specs.Answer.{Answer}
+use Rattle.answers.specs.Words.{genericAnswer, valueAnswer, profileAnswer}
 
 -- 0 to 7 the register blocks in the order of the table, 8 reset, 9 sleep control, 10 sleep status; no other number names one
 unfoldable pub registerOf : List ℕ → ℕ → Generic

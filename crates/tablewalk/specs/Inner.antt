@@ -1,7 +1,7 @@
 -- What the contracts of inner functions cite. No promise to a caller rests on these.
 use mathlib.Core.List.{[], _∷_}
-use Rattle.tablewalk.specs.Answer.{Answer}
-use Rattle.tablewalk.specs.Answer.Answer.{values, refused}
+use Rattle.answers.specs.Answer.{Answer}
+use Rattle.answers.specs.Answer.Answer.{values, refused}
 use Rattle.tablewalk.specs.declared.platform_info.TimerPart.{TimerPart}
 
 -- the seven numbers of a timer, or its refusal

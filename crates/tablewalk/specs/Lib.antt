@@ -1,5 +1,4 @@
 -- The questions that other languages ask: a number is the result, values go to a lent buffer.
-pub mod Answer
 pub mod Asked
 pub mod Fadt
 pub mod Inner

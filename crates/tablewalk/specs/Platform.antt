@@ -19,9 +19,10 @@ use Rattle.fadt.specs.declared.RegisterBlock.the-variants.{PmTimer}
 use Rattle.platform.specs.Model.{modelOf}
 use Rattle.platform.specs.declared.Model.{Model}
 use Rattle.platform.specs.declared.Answer.{Answer as PlatformAnswer}
-use Rattle.tablewalk.specs.Answer.{Answer}
-use Rattle.tablewalk.specs.Answer.Answer.{values, refused}
-use Rattle.tablewalk.specs.Asked.{bit, profileAnswer, genericAnswer, modelAnswer, askedOf}
+use Rattle.answers.specs.Answer.{Answer}
+use Rattle.answers.specs.Answer.Answer.{values, refused}
+use Rattle.answers.specs.Words.{bit, profileAnswer, genericAnswer, modelAnswer}
+use Rattle.tablewalk.specs.Asked.{askedOf}
 
 -- the values of both answers in order, or the first refusal
 unfoldable pub joined : Answer → Answer → Answer

@@ -6,7 +6,7 @@ use Rattle.sdt.specs.declared.Wanted.the-variants.{Signature}
 use Rattle.tables.specs.Tables.{nthTable}
 use Rattle.tables.specs.Named.{namedFind, OnlyNamed}
 use Rattle.fadt.specs.Values.{dsdtAddress}
-use Rattle.tablewalk.specs.Answer.{Answer}
+use Rattle.answers.specs.Answer.{Answer}
 use Rattle.tablewalk.specs.Asked.{dsdtAnswer, askedOf}
 use Rattle.tablewalk.specs.Lists.{ListsAsked}
 use Rattle.tablewalk.specs.Platform.{platformAnswer}

@@ -13,23 +13,12 @@ ghost use Rattle.platform.specs.Mailbox.{mailboxOf};
 ghost use Rattle.tablewalk.specs.Lists.{ListsAsked};
 ghost use Rattle.sdt.specs.declared.Wanted.the-variants.{Signature};
 ghost use Rattle.tables.specs.Tables.{nthTable};
-ghost use Rattle.tablewalk.specs.Answer.{Reported};
-ghost use Rattle.tablewalk.specs.Asked.{
-  hpetAnswer,
-  countAnswer,
-  windowAnswer,
-  pciAnswer,
-  fixedAnswer,
-  madtAnswer,
-  madtEntryAnswer,
-  modelAnswer,
-  mailboxAnswer,
-  dsdtAnswer,
-  askedOf,
-};
+ghost use Rattle.answers.specs.Answer.{Reported};
+ghost use Rattle.answers.specs.Words.{hpetAnswer, countAnswer, windowAnswer, pciAnswer, fixedAnswer, madtAnswer, madtEntryAnswer, modelAnswer, mailboxAnswer};
+ghost use Rattle.tablewalk.specs.Asked.{dsdtAnswer, askedOf};
 ghost use Rattle.tablewalk.specs.Fadt.{registerAnswer, numberAnswer};
-use crate::report;
 use crate::table;
+use answers::report;
 
 const HPET: u32 = 0x54455048;
 

@@ -9,9 +9,9 @@ ghost use Rattle.sdt.specs.Header.{headerSize};
 ghost use Rattle.sdt.specs.declared.Wanted.the-variants.{Signature, Any};
 ghost use Rattle.tables.specs.Root.{rootOf};
 ghost use Rattle.tables.specs.Tables.{entryOf, tableAt, nthTable};
-ghost use Rattle.tablewalk.specs.Answer.{Reported};
-ghost use Rattle.tablewalk.specs.Asked.{bit, rsdpAnswer, searchAnswer, rootAnswer, entryAnswer, foundAnswer, amlAnswer};
-use crate::report;
+ghost use Rattle.answers.specs.Answer.{Reported};
+ghost use Rattle.answers.specs.Words.{bit, rsdpAnswer, searchAnswer, rootAnswer, entryAnswer, foundAnswer, amlAnswer};
+use answers::report;
 
 const SSDT: u32 = 0x5444_5353;
 

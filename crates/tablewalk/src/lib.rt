@@ -3,6 +3,4 @@
 mod find;
 mod image;
 mod platform_info;
-mod put;
-mod report;
 mod table;

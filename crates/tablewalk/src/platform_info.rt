@@ -5,14 +5,14 @@ ghost use Rattle.sdt.specs.declared.Wanted.the-variants.{Signature};
 ghost use Rattle.tables.specs.Tables.{nthTable};
 ghost use Rattle.fadt.specs.Fields.{fixedFields};
 ghost use Rattle.platform.specs.declared.Answer.{Answer as PlatformAnswer};
-ghost use Rattle.tablewalk.specs.Answer.{Reported};
-ghost use Rattle.tablewalk.specs.Answer.Answer.{values};
-ghost use Rattle.tablewalk.specs.Asked.{profileAnswer, modelAnswer};
+ghost use Rattle.answers.specs.Answer.{Reported};
+ghost use Rattle.answers.specs.Answer.Answer.{values};
+ghost use Rattle.answers.specs.Words.{profileAnswer, modelAnswer};
 ghost use Rattle.tablewalk.specs.Platform.{joined, modelPart, wideTimer, timerAnswer, timerPart, platformAnswer};
 ghost use Rattle.tablewalk.specs.Inner.{timerWords};
 use crate::find;
-use crate::put;
-use crate::report;
+use answers::put;
+use answers::report;
 
 // A model of which nothing is known.
 const UNKNOWN: platform::Model = platform::Model {

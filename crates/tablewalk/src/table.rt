@@ -8,11 +8,11 @@ ghost use Rattle.madt.specs.Entries.{entryOf as madtEntryOf};
 ghost use Rattle.platform.specs.Model.{modelOf};
 ghost use Rattle.platform.specs.Mailbox.{mailboxOf};
 ghost use Rattle.platform.specs.Fill.{Filled};
-ghost use Rattle.tablewalk.specs.Answer.{Reported};
-ghost use Rattle.tablewalk.specs.Asked.{hpetAnswer, countAnswer, windowAnswer, pciAnswer, fixedAnswer, madtAnswer, madtEntryAnswer, modelAnswer, mailboxAnswer};
+ghost use Rattle.answers.specs.Answer.{Reported};
+ghost use Rattle.answers.specs.Words.{hpetAnswer, countAnswer, windowAnswer, pciAnswer, fixedAnswer, madtAnswer, madtEntryAnswer, modelAnswer, mailboxAnswer};
 ghost use Rattle.tablewalk.specs.Fadt.{registerOf, noValue, valueOf, registerAnswer, numberAnswer};
 ghost use mathlib.Core.Path.{_≡_};
-use crate::report;
+use answers::report;
 
 // The event timers: block id, revision, comparators, wide counter, legacy capable, PCI vendor, base address, number, minimum tick, page protection.
 #[no_mangle]

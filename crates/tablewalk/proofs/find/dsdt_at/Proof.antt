@@ -1,8 +1,9 @@
 -- `dsdt_at` meets its contract: a refusal is handed on, or the table at the address answers.
 use mathlib.Core.Path.{ap, sym, _∙_}
 use denote.Ref.{now}
-use Rattle.tablewalk.specs.Asked.{amlAnswer, dsdtAnswer}
-use Rattle.tablewalk.proofs.AnswerLaws.{handed-on, same-answer}
+use Rattle.answers.specs.Words.{amlAnswer}
+use Rattle.tablewalk.specs.Asked.{dsdtAnswer}
+use Rattle.answers.proofs.AnswerLaws.{handed-on, same-answer}
 use borrow.Author.Needs.{needs}
 use Rattle.tablewalk.proofs.find.dsdt_at.Statement.{statement}
 use Rattle.tablewalk.proofs.find.dsdt_at.Tie as tie

@@ -5,7 +5,7 @@ use mathlib.Core.List.{List}
 use denote.Ref.{now}
 use Rattle.fadt.specs.Values.{dsdtAddress}
 use Rattle.tablewalk.specs.Asked.{dsdtAnswer}
-use Rattle.tablewalk.proofs.AnswerLaws.{same-answer}
+use Rattle.answers.proofs.AnswerLaws.{same-answer}
 use Rattle.tablewalk.proofs.FindLaws.{found-mapped, find-refused, find-asked}
 use borrow.Author.Needs.{needs}
 use Rattle.tablewalk.proofs.find.tablewalk_dsdt.Statement.{statement}

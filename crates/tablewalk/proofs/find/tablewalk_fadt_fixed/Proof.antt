@@ -4,7 +4,7 @@ use Prim.Native.Nat.{ℕ}
 use mathlib.Core.List.{List}
 use denote.Ref.{now}
 use Rattle.fadt.specs.Fields.{fixedFields}
-use Rattle.tablewalk.specs.Asked.{fixedAnswer}
+use Rattle.answers.specs.Words.{fixedAnswer}
 use Rattle.tablewalk.proofs.FindLaws.{found-mapped, find-refused, find-asked}
 use borrow.Author.Needs.{needs}
 use Rattle.tablewalk.proofs.find.tablewalk_fadt_fixed.Statement.{statement}

@@ -4,7 +4,7 @@ use Prim.Native.Nat.{ℕ}
 use mathlib.Core.List.{List}
 use denote.Ref.{now}
 use Rattle.hpet.specs.Hpet.{hpetOf}
-use Rattle.tablewalk.specs.Asked.{hpetAnswer}
+use Rattle.answers.specs.Words.{hpetAnswer}
 use Rattle.tablewalk.proofs.FindLaws.{found-mapped, find-refused, find-asked}
 use borrow.Author.Needs.{needs}
 use Rattle.tablewalk.proofs.find.tablewalk_hpet.Statement.{statement}

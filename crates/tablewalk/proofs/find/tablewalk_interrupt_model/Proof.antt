@@ -4,7 +4,7 @@ use Prim.Native.Nat.{ℕ}
 use mathlib.Core.List.{List}
 use denote.Ref.{now}
 use Rattle.platform.specs.Model.{modelOf}
-use Rattle.tablewalk.specs.Asked.{modelAnswer}
+use Rattle.answers.specs.Words.{modelAnswer}
 use Rattle.tablewalk.proofs.FindLaws.{found-mapped, find-refused, find-asked}
 use borrow.Author.Needs.{needs}
 use Rattle.tablewalk.proofs.find.tablewalk_interrupt_model.Statement.{statement}

@@ -4,7 +4,7 @@ use Prim.Native.Nat.{ℕ}
 use mathlib.Core.List.{List}
 use denote.Ref.{now}
 use Rattle.madt.specs.Entries.{entryOf as madtEntryOf}
-use Rattle.tablewalk.specs.Asked.{madtEntryAnswer}
+use Rattle.answers.specs.Words.{madtEntryAnswer}
 use Rattle.tablewalk.proofs.FindLaws.{found-mapped, find-refused, find-asked}
 use borrow.Author.Needs.{needs}
 use Rattle.tablewalk.proofs.find.tablewalk_madt_entry.Statement.{statement}

@@ -4,7 +4,7 @@ use Prim.Native.Nat.{ℕ}
 use mathlib.Core.List.{List}
 use denote.Ref.{now}
 use Rattle.madt.specs.Fixed.{fixedOf}
-use Rattle.tablewalk.specs.Asked.{madtAnswer}
+use Rattle.answers.specs.Words.{madtAnswer}
 use Rattle.tablewalk.proofs.FindLaws.{found-mapped, find-refused, find-asked}
 use borrow.Author.Needs.{needs}
 use Rattle.tablewalk.proofs.find.tablewalk_madt_fixed.Statement.{statement}

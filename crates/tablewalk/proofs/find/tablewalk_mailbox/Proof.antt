@@ -4,7 +4,7 @@ use Prim.Native.Nat.{ℕ}
 use mathlib.Core.List.{List}
 use denote.Ref.{now}
 use Rattle.platform.specs.Mailbox.{mailboxOf}
-use Rattle.tablewalk.specs.Asked.{mailboxAnswer}
+use Rattle.answers.specs.Words.{mailboxAnswer}
 use Rattle.tablewalk.proofs.FindLaws.{found-mapped, find-refused, find-asked}
 use borrow.Author.Needs.{needs}
 use Rattle.tablewalk.proofs.find.tablewalk_mailbox.Statement.{statement}

@@ -4,7 +4,7 @@ use Prim.Native.Nat.{ℕ}
 use mathlib.Core.List.{List}
 use denote.Ref.{now}
 use Rattle.mcfg.specs.Entries.{entryOf}
-use Rattle.tablewalk.specs.Asked.{windowAnswer}
+use Rattle.answers.specs.Words.{windowAnswer}
 use Rattle.tablewalk.proofs.FindLaws.{found-mapped, find-refused, find-asked}
 use borrow.Author.Needs.{needs}
 use Rattle.tablewalk.proofs.find.tablewalk_mcfg_entry.Statement.{statement}

@@ -1,7 +1,7 @@
 -- `tablewalk_ranges` meets its contract: 0 where the list is right.
 use mathlib.Core.Path.{ap, sym, _∙_}
 use mathlib.Core.Bool.{Bool, not}
-use Rattle.tablewalk.specs.Asked.{bit}
+use Rattle.answers.specs.Words.{bit}
 use borrow.Author.Needs.{needs}
 use Rattle.tablewalk.proofs.image.tablewalk_ranges.Statement.{statement}
 use Rattle.tablewalk.proofs.image.tablewalk_ranges.Tie as tie

@@ -1,7 +1,7 @@
 -- `tablewalk_root` meets its contract: what was answered is reported.
 use mathlib.Core.Path.{ap, sym}
-use Rattle.tablewalk.specs.Asked.{rootAnswer}
-use Rattle.tablewalk.proofs.AnswerLaws.{same-answer}
+use Rattle.answers.specs.Words.{rootAnswer}
+use Rattle.answers.proofs.AnswerLaws.{same-answer}
 use borrow.Author.Needs.{needs}
 use Rattle.tablewalk.proofs.image.tablewalk_root.Statement.{statement}
 use Rattle.tablewalk.proofs.image.tablewalk_root.Tie as tie

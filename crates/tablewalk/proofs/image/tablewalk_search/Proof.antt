@@ -1,7 +1,7 @@
 -- `tablewalk_search` meets its contract: what was answered is reported.
 use mathlib.Core.Path.{ap, sym}
-use Rattle.tablewalk.specs.Asked.{searchAnswer}
-use Rattle.tablewalk.proofs.AnswerLaws.{same-answer}
+use Rattle.answers.specs.Words.{searchAnswer}
+use Rattle.answers.proofs.AnswerLaws.{same-answer}
 use borrow.Author.Needs.{needs}
 use Rattle.tablewalk.proofs.image.tablewalk_search.Statement.{statement}
 use Rattle.tablewalk.proofs.image.tablewalk_search.Tie as tie

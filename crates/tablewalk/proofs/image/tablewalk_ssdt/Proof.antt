@@ -1,7 +1,7 @@
 -- `tablewalk_ssdt` meets its contract: what was answered is reported.
 use mathlib.Core.Path.{ap, sym}
-use Rattle.tablewalk.specs.Asked.{amlAnswer}
-use Rattle.tablewalk.proofs.AnswerLaws.{same-answer}
+use Rattle.answers.specs.Words.{amlAnswer}
+use Rattle.answers.proofs.AnswerLaws.{same-answer}
 use borrow.Author.Needs.{needs}
 use Rattle.tablewalk.proofs.image.tablewalk_ssdt.Statement.{statement}
 use Rattle.tablewalk.proofs.image.tablewalk_ssdt.Tie as tie

@@ -1,11 +1,11 @@
 -- `in_order` meets its contract: a refusal is handed on before model and timer are looked at.
 use mathlib.Core.Path.{ap, refl, sym, _∙_}
 use mathlib.Core.List.{[], _∷_}
-use Rattle.tablewalk.specs.Answer.Answer.{values}
-use Rattle.tablewalk.specs.Asked.{profileAnswer, modelAnswer}
+use Rattle.answers.specs.Answer.Answer.{values}
+use Rattle.answers.specs.Words.{profileAnswer, modelAnswer}
 use Rattle.tablewalk.specs.Platform.{joined}
 use Rattle.tablewalk.specs.Inner.{timerWords}
-use Rattle.tablewalk.proofs.AnswerLaws.{handed-on, same-answer}
+use Rattle.answers.proofs.AnswerLaws.{handed-on, same-answer}
 use borrow.Author.Needs.{needs}
 use Rattle.tablewalk.proofs.platform_info.in_order.Statement.{statement}
 use Rattle.tablewalk.proofs.platform_info.in_order.Tie as tie

@@ -1,9 +1,9 @@
 -- `tablewalk_platform` meets its contract: the refusal of finding the FADT, or the parts in order.
 use mathlib.Core.Path.{ap, ap₂, sym, _∙_}
 use denote.Ref.{now}
-use Rattle.tablewalk.specs.Asked.{profileAnswer, modelAnswer}
+use Rattle.answers.specs.Words.{profileAnswer, modelAnswer}
 use Rattle.tablewalk.specs.Platform.{joined, platformOf, platformAnswer}
-use Rattle.tablewalk.proofs.AnswerLaws.{same-answer}
+use Rattle.answers.proofs.AnswerLaws.{same-answer}
 use Rattle.tablewalk.proofs.FindLaws.{found-mapped, find-refused, find-asked}
 use borrow.Author.Needs.{needs}
 use Rattle.tablewalk.proofs.platform_info.tablewalk_platform.Statement.{statement}

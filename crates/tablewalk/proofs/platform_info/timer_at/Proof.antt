@@ -1,7 +1,7 @@
 -- `timer_at` meets its contract: a refusal but 13 is handed on, 13 is no timer, and a block is one.
 use mathlib.Core.Path.{refl, ap, sym, _∙_}
 use Rattle.field.proofs.FirstLaws.{differ-yes, differ-no, when-hit, when-pass}
-use Rattle.tablewalk.specs.Asked.{genericAnswer}
+use Rattle.answers.specs.Words.{genericAnswer}
 use Rattle.tablewalk.specs.Platform.{joined, timerAnswer}
 use Rattle.tablewalk.specs.Inner.{timerWords}
 use borrow.Author.Needs.{needs}

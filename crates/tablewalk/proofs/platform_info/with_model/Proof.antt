@@ -1,11 +1,11 @@
 -- `with_model` meets its contract: a refusal is handed on before the timer is looked at.
 use mathlib.Core.Path.{ap}
 use mathlib.Core.List.{[], _∷_}
-use Rattle.tablewalk.specs.Answer.Answer.{values}
-use Rattle.tablewalk.specs.Asked.{modelAnswer}
+use Rattle.answers.specs.Answer.Answer.{values}
+use Rattle.answers.specs.Words.{modelAnswer}
 use Rattle.tablewalk.specs.Platform.{joined}
 use Rattle.tablewalk.specs.Inner.{timerWords}
-use Rattle.tablewalk.proofs.AnswerLaws.{handed-on, same-answer}
+use Rattle.answers.proofs.AnswerLaws.{handed-on, same-answer}
 use borrow.Author.Needs.{needs}
 use Rattle.tablewalk.proofs.platform_info.with_model.Statement.{statement}
 use Rattle.tablewalk.proofs.platform_info.with_model.Tie as tie

@@ -2,11 +2,11 @@
 use mathlib.Core.Path.{ap, refl, _∙_}
 use mathlib.Core.List.{[], _∷_}
 use Rattle.platform.specs.declared.Answer.{Answer as PlatformAnswer}
-use Rattle.tablewalk.specs.Answer.Answer.{values}
-use Rattle.tablewalk.specs.Asked.{modelAnswer}
+use Rattle.answers.specs.Answer.Answer.{values}
+use Rattle.answers.specs.Words.{modelAnswer}
 use Rattle.tablewalk.specs.Platform.{joined}
 use Rattle.tablewalk.specs.Inner.{timerWords}
-use Rattle.tablewalk.proofs.AnswerLaws.{handed-on, same-answer}
+use Rattle.answers.proofs.AnswerLaws.{handed-on, same-answer}
 use borrow.Author.Needs.{needs}
 use Rattle.tablewalk.proofs.platform_info.with_timer.Statement.{statement}
 use Rattle.tablewalk.proofs.platform_info.with_timer.Tie as tie

@@ -1,7 +1,7 @@
 -- `fadt_register` meets its contract: each number names its row.
 use mathlib.Core.Path.{refl, _∙_}
 use Rattle.tablewalk.specs.Fadt.{registerOf}
-use Rattle.tablewalk.proofs.AnswerLaws.{named, other}
+use Rattle.answers.proofs.AnswerLaws.{named, other}
 use borrow.Author.Needs.{needs}
 use Rattle.tablewalk.proofs.table.fadt_register.Statement.{statement}
 use Rattle.tablewalk.proofs.table.fadt_register.Tie as tie

@@ -1,7 +1,7 @@
 -- `fadt_value` meets its contract: each number names its row.
 use mathlib.Core.Path.{refl, _∙_}
 use Rattle.tablewalk.specs.Fadt.{valueOf}
-use Rattle.tablewalk.proofs.AnswerLaws.{named, other}
+use Rattle.answers.proofs.AnswerLaws.{named, other}
 use borrow.Author.Needs.{needs}
 use Rattle.tablewalk.proofs.table.fadt_value.Statement.{statement}
 use Rattle.tablewalk.proofs.table.fadt_value.Tie as tie

@@ -1,8 +1,8 @@
 -- `tablewalk_table_fadt_number` meets its contract: the profile, or one of the other numbers.
 use mathlib.Core.Path.{ap, sym, refl, _∙_}
-use Rattle.tablewalk.specs.Asked.{profileAnswer, valueAnswer}
+use Rattle.answers.specs.Words.{profileAnswer, valueAnswer}
 use Rattle.tablewalk.specs.Fadt.{numberAnswer}
-use Rattle.tablewalk.proofs.AnswerLaws.{same-answer, named, other}
+use Rattle.answers.proofs.AnswerLaws.{same-answer, named, other}
 use borrow.Author.Needs.{needs}
 use Rattle.tablewalk.proofs.table.tablewalk_table_fadt_number.Statement.{statement}
 use Rattle.tablewalk.proofs.table.tablewalk_table_fadt_number.Tie as tie

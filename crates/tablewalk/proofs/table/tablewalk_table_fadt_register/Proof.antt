@@ -1,8 +1,8 @@
 -- `tablewalk_table_fadt_register` meets its contract: what was answered is reported.
 use mathlib.Core.Path.{ap, sym}
-use Rattle.tablewalk.specs.Asked.{genericAnswer}
+use Rattle.answers.specs.Words.{genericAnswer}
 use Rattle.tablewalk.specs.Fadt.{registerAnswer}
-use Rattle.tablewalk.proofs.AnswerLaws.{same-answer}
+use Rattle.answers.proofs.AnswerLaws.{same-answer}
 use borrow.Author.Needs.{needs}
 use Rattle.tablewalk.proofs.table.tablewalk_table_fadt_register.Statement.{statement}
 use Rattle.tablewalk.proofs.table.tablewalk_table_fadt_register.Tie as tie

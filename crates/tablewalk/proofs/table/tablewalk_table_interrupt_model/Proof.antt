@@ -1,7 +1,7 @@
 -- `tablewalk_table_interrupt_model` meets its contract: what was answered is reported.
 use mathlib.Core.Path.{ap, sym}
-use Rattle.tablewalk.specs.Asked.{modelAnswer}
-use Rattle.tablewalk.proofs.AnswerLaws.{same-answer}
+use Rattle.answers.specs.Words.{modelAnswer}
+use Rattle.answers.proofs.AnswerLaws.{same-answer}
 use borrow.Author.Needs.{needs}
 use Rattle.tablewalk.proofs.table.tablewalk_table_interrupt_model.Statement.{statement}
 use Rattle.tablewalk.proofs.table.tablewalk_table_interrupt_model.Tie as tie

@@ -1,0 +1,2 @@
+-- Laws about answers and buffers.
+pub mod AnswerLaws

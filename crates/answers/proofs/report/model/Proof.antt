@@ -1,0 +1,50 @@
+-- `model` meets its contract: a refusal is handed on, and the values are written in order.
+use mathlib.Core.Path.{ap, refl, _∙_}
+use Rattle.answers.specs.Words.{modelAnswer}
+use Rattle.answers.proofs.AnswerLaws.{handed-on, same-answer}
+use borrow.Author.Needs.{needs}
+use Rattle.answers.proofs.report.model.Statement.{statement}
+use Rattle.answers.proofs.report.model.Tie as tie
+
+enum-known-answer : tie.Need-enum-known-answer
+enum-known-answer c = search needs
+
+enum-known-answer-2 : tie.Need-enum-known-answer-2
+enum-known-answer-2 c = search needs
+
+bit-of-requires : tie.Need-bit-of-requires
+bit-of-requires c κs = search needs
+
+bit-of-requires-2 : tie.Need-bit-of-requires-2
+bit-of-requires-2 c κs = search needs
+
+slice-aggregate-put : tie.Need-slice-aggregate-put
+slice-aggregate-put c = search needs
+
+put-requires : tie.Need-put-requires
+put-requires c κs = search needs
+
+returns : tie.Need-returns
+unfolding modelAnswer
+returns c = same-answer (ap modelAnswer (c .before .answer .given .1)) (handed-on _ _)
+
+same-length : tie.Need-same-length
+same-length c = search needs
+
+returns-2 : tie.Need-returns-2
+unfolding modelAnswer
+returns-2 c = same-answer (ap modelAnswer (c .before .before .before .before .before .before .before .before .answer2 .given .1) ∙ rw (← c .before .before .before .before .before .bit-of2 .ensures, ← c .before .before .before .before .before .before .bit-of .ensures)) (c .before .before .put .ensures)
+
+pub model-spec : {M : Type 1} → statement M
+model-spec =
+    tie.close
+    (tie.spec
+    enum-known-answer
+    enum-known-answer-2
+    bit-of-requires
+    bit-of-requires-2
+    slice-aggregate-put
+    put-requires
+    returns
+    same-length
+    returns-2)

@@ -1,0 +1,46 @@
+-- `profile` meets its contract: a refusal is handed on, and the values are written in order.
+use mathlib.Core.Path.{ap, refl, _∙_}
+use Rattle.answers.specs.Words.{profileAnswer}
+use Rattle.answers.proofs.AnswerLaws.{handed-on, same-answer}
+use borrow.Author.Needs.{needs}
+use Rattle.answers.proofs.report.profile.Statement.{statement}
+use Rattle.answers.proofs.report.profile.Tie as tie
+
+enum-known-answer : tie.Need-enum-known-answer
+enum-known-answer c = search needs
+
+enum-known-answer-2 : tie.Need-enum-known-answer-2
+enum-known-answer-2 c = search needs
+
+profile-number-requires : tie.Need-profile-number-requires
+profile-number-requires c κs = search needs
+
+slice-aggregate-put : tie.Need-slice-aggregate-put
+slice-aggregate-put c = search needs
+
+put-requires : tie.Need-put-requires
+put-requires c κs = search needs
+
+returns : tie.Need-returns
+unfolding profileAnswer
+returns c = same-answer (ap profileAnswer (c .before .answer .given .1)) (handed-on _ _)
+
+same-length : tie.Need-same-length
+same-length c = search needs
+
+returns-2 : tie.Need-returns-2
+unfolding profileAnswer
+returns-2 c = same-answer (ap profileAnswer (c .before .before .before .before .before .before .before .answer2 .given .1) ∙ rw (← c .before .before .before .before .before .profile-number .ensures)) (c .before .before .put .ensures)
+
+pub profile-spec : {M : Type 1} → statement M
+profile-spec =
+    tie.close
+    (tie.spec
+    enum-known-answer
+    enum-known-answer-2
+    profile-number-requires
+    slice-aggregate-put
+    put-requires
+    returns
+    same-length
+    returns-2)
