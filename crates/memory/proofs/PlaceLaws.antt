@@ -1,5 +1,5 @@
 -- Laws about places and views: the theorems of specs/Statements, and what the crates above use.
-use Prim.Native.Nat.{ℕ, zero, suc, _+_, _-_, _≤_, _<_, min}
+use Prim.Native.Nat.{ℕ, zero, suc, _+_, _-_, _*_, _≤_, _<_, min}
 use mathlib.Core.Path.{_≡_, refl, ap, ap₂, sym, _∙_}
 use mathlib.Core.List.{List, [], _∷_, _++_}
 use mathlib.Core.Bool.{Bool, true, false, _&&_}
@@ -14,11 +14,12 @@ use Rattle.field.proofs.PartLaws.{part-length, part-at}
 use Rattle.memory.specs.Ranges.{rangesOf, inside, allInside, follows, ordered, right}
 use Rattle.memory.specs.Places.{holds, placeIn, placeOf, bytesAt, viewOf, Elsewhere}
 use Rattle.memory.specs.Statements.{OneHolder, InsideTheSlice, Within, InsideOneRange, ReadableIfHeld, OtherBytesStay}
+use Rattle.memory.specs.Walk.{rangeAt}
 use Rattle.memory.specs.declared.Range.{Range}
 use Rattle.memory.specs.declared.Place.{Place}
 use Rattle.memory.specs.declared.Place.the-variants.{At, Unmapped}
 use Rattle.memory.proofs.TestLaws.{and-left, and-right}
-use Rattle.memory.proofs.RangeLaws.{right-inside, right-ordered, inside-slice, follows-end, holds-start, holds-len, holds-yes, holds-below}
+use Rattle.memory.proofs.RangeLaws.{ranges-step, right-inside, right-ordered, inside-slice, follows-end, holds-start, holds-len, holds-yes, holds-above, holds-below}
 
 -- A place that was found is that in a range of the list that holds the address.
 pub record Found (rs : List Range) (p offset room : ℕ) : Type 0 where
@@ -103,18 +104,77 @@ unfolding ordered
 ordered-tail b [] e = refl
 ordered-tail b (r ∷ rs) e = and-right (follows b r) _ e
 
+-- In an ordered list no range before one that starts at the address or below holds it.
+place-passed : (before after : List Range) (r : Range) (p : ℕ) → ordered (before ++ r ∷ after) ≡ true → r .start ≤ p
+    → placeOf (before ++ r ∷ after) p ≡ placeOf (r ∷ after) p
+unfolding placeOf
+place-passed [] after r p e h = refl
+place-passed (b ∷ before) after r p e h =
+    when-pass _ _ _ (holds-below b p (omega (arith, ends-before b before after r e)))
+    ∙ place-passed before after r p (ordered-tail b (before ++ r ∷ after) e) h
+
 one-holder-in : (before after : List Range) (r : Range) (p : ℕ) → ordered (before ++ r ∷ after) ≡ true → holds r p ≡ true
     → placeOf (before ++ r ∷ after) p ≡ placeIn r p
 unfolding placeOf
-one-holder-in [] after r p e h = when-hit _ _ _ h
-one-holder-in (b ∷ before) after r p e h =
-    when-pass _ _ _ (holds-below b p (omega (arith, ends-before b before after r e, holds-start r p h)))
-    ∙ one-holder-in before after r p (ordered-tail b (before ++ r ∷ after) e) h
+one-holder-in before after r p e h = place-passed before after r p e (holds-start r p h) ∙ when-hit _ _ _ h
 
 pub one-holder : OneHolder
 one-holder size words before after r p e listed h =
     ap (λ (l : List Range). placeOf l p) listed
     ∙ one-holder-in before after r p (ap ordered (sym listed) ∙ right-ordered size words e) h
+
+-- In an ordered list that starts above the address no range holds it.
+starts-above : (r : Range) (rs : List Range) (p : ℕ) → ordered (r ∷ rs) ≡ true → p < r .start → placeOf (r ∷ rs) p ≡ Unmapped
+unfolding placeOf ordered
+starts-above r [] p e h = when-pass _ _ _ (holds-above r p h)
+starts-above r (s ∷ rs) p e h =
+    when-pass _ _ _ (holds-above r p h)
+    ∙ starts-above s rs p (and-right (follows r s) _ e) (omega (arith, follows-end r s (and-left _ (ordered (s ∷ rs)) e)))
+
+-- The rest of an ordered list is ordered.
+ordered-after : (before rs : List Range) → ordered (before ++ rs) ≡ true → ordered rs ≡ true
+ordered-after [] rs e = e
+ordered-after (b ∷ before) rs e = ordered-after before rs (ordered-tail b (before ++ rs) e)
+
+-- The range whose three numbers begin at place j is one of the ranges from place i on.
+record Listed (words : List ℕ) (i j : ℕ) : Type 0 where
+  pub before : List Range
+  pub listed : rangesOf (drop i words) ≡ before ++ rangeAt words j ∷ rangesOf (drop (j + 3) words)
+
+listed-from : (words : List ℕ) (i n j : ℕ) → i + 3 * n ≡ j → j + 3 ≤ length words → Listed words i j
+listed-from words i zero j e h =
+    let same : i ≡ j = omega arith in
+    record { before = []; listed = ap (λ (k : ℕ). rangesOf (drop k words)) same ∙ ranges-step words j h }
+listed-from words i (suc n) j e h =
+    let later = listed-from words (i + 3) n j (omega arith) h in
+    record {
+      before = rangeAt words i ∷ later .before;
+      listed = ranges-step words i (omega arith) ∙ ap (λ (l : List Range). rangeAt words i ∷ l) (later .listed);
+    }
+
+-- Each range of a right list is inside the slice.
+pub range-inside : (size : ℕ) (words : List ℕ) (n : ℕ) → right size words ≡ true → 3 * n + 3 ≤ length words
+    → inside size (rangeAt words (3 * n)) ≡ true
+range-inside size words n e h =
+    let l = listed-from words 0 n (3 * n) (omega arith) h in
+    member-inside size (l .before) _ (rangeAt words (3 * n)) (ap (allInside size) (sym (l .listed)) ∙ right-inside size words e)
+
+-- Where a range of a right list starts at the address or below, it and those behind it give the place that all give.
+pub place-from : (size : ℕ) (words : List ℕ) (n p : ℕ) → right size words ≡ true → 3 * n + 3 ≤ length words
+    → rangeAt words (3 * n) .start ≤ p → placeOf (rangesOf (drop (3 * n) words)) p ≡ placeOf (rangesOf words) p
+place-from size words n p e h k =
+    let l = listed-from words 0 n (3 * n) (omega arith) h in
+    ap (λ (rs : List Range). placeOf rs p) (ranges-step words (3 * n) h)
+    ∙ sym (place-passed (l .before) _ (rangeAt words (3 * n)) p (ap ordered (sym (l .listed)) ∙ right-ordered size words e) k)
+    ∙ ap (λ (rs : List Range). placeOf rs p) (sym (l .listed))
+
+-- Where it starts above the address, neither it nor one behind it holds the address.
+pub place-above : (size : ℕ) (words : List ℕ) (n p : ℕ) → right size words ≡ true → 3 * n + 3 ≤ length words
+    → p < rangeAt words (3 * n) .start → placeOf (rangesOf (drop (3 * n) words)) p ≡ Unmapped
+place-above size words n p e h k =
+    let l = listed-from words 0 n (3 * n) (omega arith) h in
+    ap (λ (rs : List Range). placeOf rs p) (ranges-step words (3 * n) h)
+    ∙ starts-above (rangeAt words (3 * n)) _ p (ordered-after (l .before) _ (ap ordered (sym (l .listed)) ∙ right-ordered size words e)) k
 
 -- The view at a place is that part of the slice.
 pub view-at : (image words : List ℕ) (p offset room : ℕ) → placeOf (rangesOf words) p ≡ At offset room → viewOf image words p ≡ part image offset room

@@ -172,14 +172,3 @@ pub right-order : (size : ℕ) (words : List ℕ) → length words % 3 ≡ 0 →
     → allInside size (rangesOf words) ≡ true → right size words ≡ ordered (rangesOf words)
 unfolding right
 right-order size words h k e = rw (eq-eqb (length words % 3) 0 h, le-leb (length words / 3) mostRanges k, e)
-
--- In a list whose ranges are all inside, the one at hand is, and those behind it are.
-pub inside-here : (size : ℕ) (words : List ℕ) (i : ℕ) → i + 3 ≤ length words → allInside size (rangesOf (drop i words)) ≡ true
-    → inside size (rangeAt words i) ≡ true
-unfolding allInside
-inside-here size words i h e = and-left _ (allInside size (rangesOf (drop (i + 3) words))) (rw (ranges-step words i h) at e)
-
-pub inside-later : (size : ℕ) (words : List ℕ) (i : ℕ) → i + 3 ≤ length words → allInside size (rangesOf (drop i words)) ≡ true
-    → allInside size (rangesOf (drop (i + 3) words)) ≡ true
-unfolding allInside
-inside-later size words i h e = and-right (inside size (rangeAt words i)) _ (rw (ranges-step words i h) at e)

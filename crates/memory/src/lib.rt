@@ -139,21 +139,24 @@ fn place_in(r: Range, p: u64) -> Place
     Place::At((r.offset + into) as usize, (r.len - into) as usize)
 }
 
-// Where the address stands, if a range holds it.
+// Where the address stands, if a range holds it. The ranges ascend, so each look halves those that can hold it.
 pub fn locate(image: &[u8], ranges: &[u64], p: u64) -> Place
     requires { ⌜ right (length (now image)) (now ranges) ≡ true ⌝ }
     ensures { λ r. ⌜ r ≡ placeOf (rangesOf (now (ranges .entry))) p ⌝ }
 {
-    let mut i = 0;
-    while i < ranges.len() {
-        if ranges.len() - i < 3 {
-            return Place::Unmapped;
+    let mut low = 0;
+    let mut high = ranges.len() / 3;
+    while low < high {
+        let middle = low + (high - low) / 2;
+        let r = range_at(ranges, 3 * middle);
+        if p < r.start {
+            high = middle;
+            continue;
         }
-        let r = range_at(ranges, i);
         if has(r, p) {
             return place_in(r, p);
         }
-        i += 3;
+        low = middle + 1;
     }
     Place::Unmapped
 }

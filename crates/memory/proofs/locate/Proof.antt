@@ -1,78 +1,121 @@
-use Rattle.memory.specs.Ranges.{inside}
--- `locate` meets its contract. The loop's invariant: the ranges from here on give the place that all give, and all are inside.
+-- `locate` meets its contract. The loop's invariant: the ranges from the low one on give the place that all give, and none from
+-- the high one on holds the address.
 use mathlib.Core.Path.{_≡_, refl, ap, sym, _∙_}
 use native.Mathlib.Omega.{arith}
 use borrow.Author.Needs.{needs}
-use Prim.Native.Nat.{_-_, _+_, _≤_}
-use mathlib.Core.Bool.{true}
+use Prim.Native.Nat.{ℕ, _+_, _-_, _*_, _/_, _≤_}
 use lib.ListN.{length, drop}
 use denote.Ref.{now}
-use Rattle.memory.specs.Ranges.{rangesOf, allInside}
+use Rattle.memory.specs.Ranges.{rangesOf, inside}
 use Rattle.memory.specs.Places.{holds, placeOf, placeIn}
 use Rattle.memory.specs.declared.Range.{Range}
-use Rattle.memory.proofs.RangeLaws.{place-here, place-later, place-end, right-inside, inside-here, inside-later, inside-slice, holds-start, holds-len}
+use Rattle.memory.specs.declared.Place.the-variants.{Unmapped}
+use Rattle.memory.proofs.RangeLaws.{place-here, place-later, place-end, inside-slice, holds-start, holds-len}
+use Rattle.memory.proofs.PlaceLaws.{range-inside, place-from, place-above}
 use Rattle.memory.proofs.locate.Statement.{statement}
 use Rattle.memory.proofs.locate.Tie as tie
 
 abbrev Inv-loop : tie.InvT-loop
-Inv-loop image ranges p i₀ i =
-    (placeOf (rangesOf (drop i ranges)) p ≡ placeOf (rangesOf ranges) p) × (allInside (length image) (rangesOf (drop i ranges)) ≡ true)
+Inv-loop image ranges p low₀ high₀ low high =
+    (low ≤ high)
+    × (3 * high ≤ length ranges)
+    × (placeOf (rangesOf (drop (3 * low) ranges)) p ≡ placeOf (rangesOf ranges) p)
+    × (placeOf (rangesOf (drop (3 * high) ranges)) p ≡ Unmapped)
 
 abbrev μ-loop : tie.MeasureT-loop
-μ-loop image ranges p i₀ i = length ranges - i
+μ-loop image ranges p low₀ high₀ low high = high - low
 
 loop-holds : tie.Need-loop-holds Inv-loop μ-loop
-loop-holds c = (refl, right-inside _ _ (c .before .before .pre))
+loop-holds c =
+    let a = c .before .before .args in
+    (omega arith, omega arith, refl, place-end (now (a .ranges)) (3 * (length (now (a .ranges)) / 3)) (a .p) (omega arith))
 
-sub-if1 : tie.Need-sub-if1 Inv-loop μ-loop
-sub-if1 c = omega arith
+sub-middle : tie.Need-sub-middle Inv-loop μ-loop
+sub-middle c = omega arith
 
-returns : tie.Need-returns Inv-loop μ-loop
-returns c = sym (place-end (now (c .before .before .before .before .before .args .ranges)) (c .before .before .loop .i) (c .before .before .before .before .before .args .p) (omega arith)) ∙ c .before .before .loop .inv .0
+add-middle : tie.Need-add-middle Inv-loop μ-loop
+add-middle c = omega arith
+
+mul-range-at : tie.Need-mul-range-at Inv-loop μ-loop
+mul-range-at c = omega arith
 
 range-at-requires : tie.Need-range-at-requires Inv-loop μ-loop
 range-at-requires c κs = omega arith
-
-has-requires : tie.Need-has-requires Inv-loop μ-loop
-has-requires c κs = search needs
-
-place-in-requires : tie.Need-place-in-requires Inv-loop μ-loop
-place-in-requires c κs =
-    let a = c .before .before .before .before .before .before .before .before .args in
-    let l = c .before .before .before .before .before .loop in
-    let r = c .before .before .range-at .result in
-    let held = sym (c .before .has .ensures) ∙ c .if2 .taken in
-    let fits = ap (inside (length (now (a .image)))) (c .before .before .range-at .ensures) ∙ inside-here _ (now (a .ranges)) (l .i) (omega arith) (l .inv .1) in
-    omega (arith, holds-start r (a .p) held, holds-len r (a .p) held, inside-slice (length (now (a .image))) r fits)
-
-returns-2 : tie.Need-returns-2 Inv-loop μ-loop
-returns-2 c =
-    let a = c .before .before .before .before .before .before .before .before .before .args in
-    let l = c .before .before .before .before .before .before .loop in
-    let same = c .before .before .before .range-at .ensures in
-    let held = ap (λ (r : Range). holds r (a .p)) (sym same) ∙ sym (c .before .before .has .ensures) ∙ c .before .if2 .taken in
-    c .place-in .ensures
-    ∙ ap (λ (r : Range). placeIn r (a .p)) same
-    ∙ sym (place-here (now (a .ranges)) (l .i) (a .p) (omega arith) held)
-    ∙ l .inv .0
-
-add-i : tie.Need-add-i Inv-loop μ-loop
-add-i c = omega arith
 
 loop-less : tie.Need-loop-less Inv-loop μ-loop
 loop-less c = omega arith
 
 loop-again : tie.Need-loop-again Inv-loop μ-loop
 loop-again c =
-    let a = c .before .before .before .before .before .before .before .before .args in
-    let l = c .before .before .before .before .before .loop in
-    let missed = ap (λ (r : Range). holds r (a .p)) (sym (c .before .before .range-at .ensures)) ∙ sym (c .before .has .ensures) ∙ c .if2 .left in (
-      sym (place-later (now (a .ranges)) (l .i) (a .p) (omega arith) missed) ∙ l .inv .0,
-      inside-later _ (now (a .ranges)) (l .i) (omega arith) (l .inv .1),
+    let a = c .before .before .before .before .before .before .before .args in
+    let pre = c .before .before .before .before .before .before .before .pre in
+    let l = c .before .before .before .before .loop in
+    let start = ap (λ (r : Range). r .start) (c .before .before .range-at .ensures) in (
+      omega arith,
+      omega arith,
+      l .inv .2,
+      place-above _ (now (a .ranges)) (l .low + (l .high - l .low) / 2) (a .p) pre (omega arith) (omega arith),
     )
 
-returns-3 : tie.Need-returns-3 Inv-loop μ-loop
-returns-3 c = sym (place-end (now (c .before .before .before .before .args .ranges)) (c .before .loop .i) (c .before .before .before .before .args .p) (omega arith)) ∙ c .before .loop .inv .0
+has-requires : tie.Need-has-requires Inv-loop μ-loop
+has-requires c κs = search needs
+
+place-in-requires : tie.Need-place-in-requires Inv-loop μ-loop
+place-in-requires c κs =
+    let a = c .before .before .before .before .before .before .before .before .before .args in
+    let pre = c .before .before .before .before .before .before .before .before .before .pre in
+    let l = c .before .before .before .before .before .before .loop in
+    let r = c .before .before .before .before .range-at .result in
+    let held = sym (c .before .has .ensures) ∙ c .if2 .taken in
+    let fits = ap (inside (length (now (a .image)))) (c .before .before .before .before .range-at .ensures) ∙ range-inside _ (now (a .ranges)) (l .low + (l .high - l .low) / 2) pre (omega arith) in
+    omega (arith, holds-start r (a .p) held, holds-len r (a .p) held, inside-slice (length (now (a .image))) r fits)
+
+returns : tie.Need-returns Inv-loop μ-loop
+returns c =
+    let a = c .before .before .before .before .before .before .before .before .before .before .args in
+    let pre = c .before .before .before .before .before .before .before .before .before .before .pre in
+    let l = c .before .before .before .before .before .before .before .loop in
+    let middle = l .low + (l .high - l .low) / 2 in
+    let same = c .before .before .before .before .before .range-at .ensures in
+    let start = ap (λ (r : Range). r .start) same in
+    let held = ap (λ (r : Range). holds r (a .p)) (sym same) ∙ sym (c .before .before .has .ensures) ∙ c .before .if2 .taken in
+    c .place-in .ensures
+    ∙ ap (λ (r : Range). placeIn r (a .p)) same
+    ∙ sym (place-here (now (a .ranges)) (3 * middle) (a .p) (omega arith) held)
+    ∙ place-from _ (now (a .ranges)) middle (a .p) pre (omega arith) (omega arith)
+
+add-low : tie.Need-add-low Inv-loop μ-loop
+add-low c = omega arith
+
+loop-less-2 : tie.Need-loop-less-2 Inv-loop μ-loop
+loop-less-2 c = omega arith
+
+loop-again-2 : tie.Need-loop-again-2 Inv-loop μ-loop
+loop-again-2 c =
+    let a = c .before .before .before .before .before .before .before .before .before .args in
+    let pre = c .before .before .before .before .before .before .before .before .before .pre in
+    let l = c .before .before .before .before .before .before .loop in
+    let middle = l .low + (l .high - l .low) / 2 in
+    let same = c .before .before .before .before .range-at .ensures in
+    let start = ap (λ (r : Range). r .start) same in
+    let missed = ap (λ (r : Range). holds r (a .p)) (sym same) ∙ sym (c .before .has .ensures) ∙ c .if2 .left in
+    let next : 3 * (middle + 1) ≡ 3 * middle + 3 = omega arith in (
+      omega arith,
+      omega arith,
+      ap (λ (i : ℕ). placeOf (rangesOf (drop i (now (a .ranges)))) (a .p)) next
+          ∙ sym (place-later (now (a .ranges)) (3 * middle) (a .p) (omega arith) missed)
+          ∙ place-from _ (now (a .ranges)) middle (a .p) pre (omega arith) (omega arith),
+      l .inv .3,
+    )
+
+returns-2 : tie.Need-returns-2 Inv-loop μ-loop
+returns-2 c =
+    let a = c .before .before .before .before .args in
+    let l = c .before .loop in
+    let met : l .low ≡ l .high = omega arith in
+    sym (l .inv .3)
+    ∙ ap (λ (n : ℕ). placeOf (rangesOf (drop (3 * n) (now (a .ranges)))) (a .p)) (sym met)
+    ∙ l .inv .2
 
 pub locate-spec : {M : Type 1} → statement M
 locate-spec =
@@ -81,13 +124,16 @@ locate-spec =
     Inv-loop
     μ-loop
     loop-holds
-    sub-if1
-    returns
+    sub-middle
+    add-middle
+    mul-range-at
     range-at-requires
-    has-requires
-    place-in-requires
-    returns-2
-    add-i
     loop-less
     loop-again
-    returns-3)
+    has-requires
+    place-in-requires
+    returns
+    add-low
+    loop-less-2
+    loop-again-2
+    returns-2)
