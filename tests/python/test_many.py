@@ -191,6 +191,8 @@ class Many(InFolder):
         process = subprocess.Popen(
             [sys.executable, "-B", str(ROOT / "tablewalk"), "summary", *files],
             stdout=subprocess.PIPE, stderr=subprocess.PIPE, start_new_session=True,
+            # A shell that runs the tests in its background has them pass over this signal.
+            preexec_fn=lambda: signal.signal(signal.SIGINT, signal.SIG_DFL),
         )
         writer = None
         for _ in range(1200):
