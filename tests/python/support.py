@@ -88,3 +88,17 @@ class InFolder(unittest.TestCase):
 
 
 needs_library = unittest.skipIf(USE_DOUBLE, "asks the library in a process of its own")
+
+
+def shown_on(terminal):
+    """All that is written to a terminal until nobody has it open any more."""
+    shown = b""
+    while True:
+        try:
+            part = os.read(terminal, 65536)
+        except OSError:
+            # This is how Linux says that the other side is closed.
+            return shown
+        if not part:
+            return shown
+        shown += part

@@ -13,7 +13,7 @@ import subprocess
 import sys
 import unittest
 
-from support import ROOT, InFolder, Result, needs_library
+from support import ROOT, InFolder, Result, needs_library, shown_on
 
 from tablewalk.library import SHARED
 
@@ -167,15 +167,7 @@ class Checkout(InFolder):
             stderr=inner, cwd=self.folder,
         )
         os.close(inner)
-        shown = b""
-        while True:
-            try:
-                part = os.read(outer, 65536)
-            except OSError:
-                break
-            if not part:
-                break
-            shown += part
+        shown = shown_on(outer)
         os.close(outer)
         self.assertEqual(process.wait(60), 0)
         self.assertRegex(shown, rb"\r\x1b\[K\d s  proving")

@@ -16,6 +16,7 @@ from support import (
     needs_library,
     run,
     run_script,
+    shown_on,
 )
 
 import make_examples
@@ -444,15 +445,7 @@ class Started(InFolder):
                 env={**os.environ, "TERM": "xterm", **environment},
             )
             os.close(inner)
-            shown = b""
-            while True:
-                try:
-                    part = os.read(outer, 65536)
-                except OSError:
-                    break
-                if not part:
-                    break
-                shown += part
+            shown = shown_on(outer)
             process.wait(60)
             os.close(outer)
             self.assertEqual(b"\x1b[" in shown, coloured)
