@@ -1,10 +1,10 @@
 -- Laws about the n-th valid element of a list.
 use Rattle.std.proofs.Common.{◌≡◌, ℕ, zero, suc, ◌≤◌, Bool, true, false, List, [], ◌∷◌, ◌++◌, sym, refl, ap, ◌∙◌, subst, arith}
 use Rattle.field.specs.First.{differ, when}
-use Rattle.field.specs.Choice.{Choice, nth_valid, looked_at, count_valid, Nth, ChosenIsNth, NothingMeansFew, All, OnlyLookedAt}
+use Rattle.field.specs.Choice.{nth_valid, looked_at, count_valid, Nth, ChosenIsNth, NothingMeansFew, All, OnlyLookedAt}
 use Rattle.field.specs.Choice.Choice.{nothing, chosen}
 use Rattle.field.specs.Choice.All.{none, with}
-use Rattle.field.proofs.FirstLaws.{differ_yes, differ_no, differ_true, differ_false, when_hit, when_pass}
+use Rattle.field.proofs.FirstLaws.{differ_yes, differ_no, differ_false, when_hit, when_pass}
 
 -- A refused element is passed over; a valid one is the one, or the next is counted from one less.
 pub choice_refused : (refusal : ℕ → ℕ) (n p : ℕ) (ps : List ℕ) → (refusal p ≡ 0 → ⊥) → nth_valid refusal n (p ∷ ps) ≡ nth_valid refusal n ps

@@ -1,5 +1,5 @@
 -- Laws about tests and the first number that applies.
-use Rattle.std.proofs.Common.{◌≡◌, ℕ, zero, suc, ◌<◌, ◌≤◌, Bool, true, false, not, ◌&&◌, T, eqb, ltb, leb, List, [], ◌∷◌, ◌++◌, sym, refl, ap, ◌∙◌, subst, le_trans, le_refl, arith, ltb-false, ltb-true, le-ltb, lt-ltb, eq-eqb, ne_eqb, eqb-true, leb-true}
+use Rattle.std.proofs.Common.{◌≡◌, ℕ, zero, suc, ◌<◌, ◌≤◌, Bool, true, false, not, ◌&&◌, T, eqb, leb, List, [], ◌∷◌, ◌++◌, sym, refl, ap, ◌∙◌, subst, le_trans, le_refl, arith, ltb-false, ltb-true, le-ltb, lt-ltb, eq-eqb, ne_eqb, eqb-true, leb-true}
 use borrow.Author.Tests.{eqb-false, not-true, not-false}
 use Rattle.field.specs.First.{less, differ, when, Reason, ◌gives◌, first_number, Ascending, Applies, FirstIsSmallest}
 use Rattle.field.specs.First.Ascending.{no_more, then}
@@ -96,12 +96,14 @@ append_passes ((false gives suc m) ∷ first) rest t e = append_passes first res
 
 -- In an ascending list every number that applies is at least the list's bound.
 at_least : {m : ℕ} {reasons : List Reason} → Ascending m reasons → {n : ℕ} → Applies n reasons → m ≤ n
+at_least (no_more {m = m}) {n = n} a = elim a [ ]
 at_least (then le rest) (here e) = le
 at_least (then le rest) (later a) = le_trans le (at_least rest a)
 
 -- The first reason of an ascending list holds, and its number is the smallest; or the rest decides.
 smallest : {m : ℕ} {reasons : List Reason} → Ascending m reasons → {n : ℕ} → Applies n reasons → first_number reasons ≤ n
 unfolding first_number when
+smallest (no_more {m = m}) {n = n} a = elim a [ ]
 smallest (then {n = k} {test = true} le rest) (here e) = le_refl k
 smallest (then {test = false} le rest) (here e) = absurd (subst T (sym e) tt)
 smallest (then {test = true} le rest) (later a) = at_least rest a

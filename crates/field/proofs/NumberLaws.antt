@@ -1,5 +1,5 @@
 -- Laws about numbers in a list of bytes.
-use Rattle.std.proofs.Common.{◌≡◌, ℕ, zero, suc, ◌+◌, ◌*◌, ◌^◌, ◌<◌, ◌≤◌, List, length, get_or, take, drop, sym, refl, ap, ◌∙◌, add-zero, add_assoc, add-suc, mul_assoc, suc-add, zero-add, mul-add, add-one, one-add, arith, get_or-drop, get_or-take}
+use Rattle.std.proofs.Common.{◌≡◌, ℕ, zero, suc, ◌+◌, ◌*◌, ◌^◌, ◌<◌, ◌≤◌, List, take, drop, refl, add-zero, add_assoc, add-suc, mul_assoc, suc-add, zero-add, mul-add, one-add, arith, get_or-drop, get_or-take}
 use native.Mathlib.Nat.{pow-succ'}
 use Rattle.field.specs.Number.{number}
 

@@ -1,5 +1,5 @@
 -- Laws about parts of a list of bytes.
-use Rattle.std.proofs.Common.{◌≡◌, ℕ, ◌+◌, ◌-◌, ◌<◌, ◌≤◌, min, List, length, get_or, take, drop, sym, ◌∙◌, arith, length-drop, length-take, get_or-drop, get_or-take, take-take, ext_get_or}
+use Rattle.std.proofs.Common.{◌≡◌, ℕ, ◌+◌, ◌<◌, ◌≤◌, List, length, get_or, take, sym, ◌∙◌, arith, length-drop, length-take, get_or-drop, get_or-take, take-take, ext_get_or}
 use Rattle.field.specs.Part.{part}
 
 -- A part that lies inside is as long as asked.

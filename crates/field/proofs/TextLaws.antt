@@ -1,7 +1,7 @@
 -- Laws about UTF-8: which row of the table a first byte has. The rows ascend, so all rows before it end below the byte.
 use Rattle.std.proofs.Common.{◌≡◌, ℕ, zero, suc, ◌<◌, ◌≤◌, Bool, true, false, ◌&&◌, T, leb, List, [], ◌∷◌, drop, sym, refl, ap, ◌∙◌, zero-le, lt_of_lt_of_le, lt_of_le_of_lt, leb→le, le-leb}
 use borrow.Author.Tests.{lt-leb}
-use Rattle.field.specs.Text.{Span, ◌to◌, within, Row, table, Following, pick, following_in}
+use Rattle.field.specs.Text.{Span, ◌to◌, within, Row, table, pick, following_in}
 use Rattle.field.specs.Text.Following.{nothing_fits, these}
 
 -- A byte is inside a span, or below it, or above it.

@@ -1,13 +1,13 @@
 -- Laws about the walk over UTF-8: how what is expected changes with a byte.
-use Rattle.std.proofs.Common.{◌≡◌, ℕ, zero, suc, ◌+◌, ◌-◌, ◌<◌, ◌≤◌, Bool, true, false, ◌&&◌, eqb, List, [], ◌∷◌, length, get_or, drop, sym, refl, ap, ◌∙◌, subst, add-one, sub-one, drop_of_length-le, drop-cons}
+use Rattle.std.proofs.Common.{◌≡◌, ℕ, zero, suc, ◌+◌, ◌-◌, ◌<◌, ◌≤◌, Bool, false, ◌&&◌, eqb, List, [], ◌∷◌, length, get_or, drop, sym, refl, ap, ◌∙◌, subst, add-one, sub-one, drop_of_length-le, drop-cons}
 use lib.Dec.{eqb-suc-zero}
-use Rattle.field.specs.Text.{Span, ◌to◌, within, table, Following, following_in, well_formed}
+use Rattle.field.specs.Text.{◌to◌, within, table, Following, following_in, well_formed}
 use Rattle.field.specs.Text.Following.{nothing_fits, these}
 use Rattle.field.specs.Walk.{spans, spans_of, meaning, well_formed_after}
 use Rattle.field.specs.declared.utf8.Expected.{Expected}
 use Rattle.field.specs.declared.utf8.Ahead.{Ahead}
 use Rattle.field.specs.declared.utf8.Ahead.TheVariants.{Ill, Expect}
-use Rattle.field.proofs.TextLaws.{inside, below, above}
+use Rattle.field.proofs.TextLaws.{inside}
 
 -- What a first byte leads to decides about the bytes behind it.
 leads : (r : Ahead) (b : ℕ) (s : List ℕ) → meaning r ≡ following_in table b → well_formed [] (b ∷ s) ≡ well_formed_after r s

@@ -1,6 +1,6 @@
 -- The first number that applies. A question that may be refused for several reasons has a list of them, a test and its
 -- number each, ascending: the answer is the number of the first test that holds, which is then the smallest that applies.
-use Rattle.std.specs.Prelude.{◌≡◌, ℕ, ◌<◌, ◌≤◌, Bool, true, false, not, List, [], ◌∷◌, ◌==◌, nat_lt}
+use Rattle.std.specs.Prelude.{◌≡◌, ℕ, ◌≤◌, Bool, true, false, not, List, [], ◌∷◌, ◌==◌, nat_lt}
 
 -- The tests of a refusal. They say what `ltb` and `eqb` say, and stay shut, so that laws can be found by their shape.
 unfoldable pub less : ℕ → ℕ → Bool

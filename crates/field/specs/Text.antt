@@ -1,5 +1,5 @@
 -- Which bytes are UTF-8: the Unicode Standard, section 3.9, Table 3-7, "Well-Formed UTF-8 Byte Sequences".
-use Rattle.std.specs.Prelude.{ℕ, zero, suc, Bool, true, false, ◌&&◌, List, [], ◌∷◌, nat_le}
+use Rattle.std.specs.Prelude.{ℕ, Bool, true, false, ◌&&◌, List, [], ◌∷◌, nat_le}
 
 -- the bytes from the low one up to and including the high one
 pub record Span : Type 0 where

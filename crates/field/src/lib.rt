@@ -1,4 +1,6 @@
 // Reads numbers, sums and text out of slices of bytes. Every other crate reads through these functions.
+#![tactic(auto)]
+
 ghost use Rattle.std.specs.Prelude.{◌≡◌, ◌+◌, ◌%◌, ◌<◌, ◌≤◌, length};
 ghost use Rattle.field.specs.Number.{number};
 ghost use Rattle.field.specs.Sum.{sum};
