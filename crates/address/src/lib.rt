@@ -1,4 +1,6 @@
 // Generic addresses: where a register lies (ACPI 6.5, section 5.2.3.2, "Generic Address Structure").
+#![tactic(auto)]
+
 ghost use Rattle.std.specs.Prelude.{◌≡◌, ◌+◌, ◌≤◌, length};
 ghost use Rattle.field.specs.Number.{number};
 ghost use Rattle.address.specs.Space.{space_of, space_number};
@@ -6,7 +8,7 @@ ghost use Rattle.address.specs.Size.{size_of, size_number};
 ghost use Rattle.address.specs.Generic.{generic_address_at, generic_of};
 
 // The address spaces, under the names of the Rust crate.
-#[derive(Drop)]
+#[derive(Clone, Copy)]
 pub enum AddressSpace {
     SystemMemory,
     SystemIo,
@@ -23,7 +25,7 @@ pub enum AddressSpace {
     OemDefined(u8),
 }
 
-#[derive(Drop)]
+#[derive(Clone, Copy)]
 pub enum AccessSize {
     Undefined,
     ByteAccess,
@@ -33,7 +35,7 @@ pub enum AccessSize {
 }
 
 // The width has 32 bits, since that of a register block is eight times a length byte.
-#[derive(Drop)]
+#[derive(Clone, Copy)]
 pub struct GenericAddress {
     pub address_space: AddressSpace,
     pub bit_width: u32,
@@ -42,20 +44,20 @@ pub struct GenericAddress {
     pub address: u64,
 }
 
-#[derive(Drop)]
+#[derive(Clone, Copy)]
 pub enum Generic {
     Address(GenericAddress),
     Refused(u32),
 }
 
 // What a number in a table names, where it names anything.
-#[derive(Drop)]
+#[derive(Clone, Copy)]
 pub enum Space {
     Known(AddressSpace),
     UnknownSpace,
 }
 
-#[derive(Drop)]
+#[derive(Clone, Copy)]
 pub enum Size {
     Sized(AccessSize),
     UnknownSize,

@@ -1,5 +1,7 @@
 // The Fixed ACPI Description Table, "FACP" (ACPI 6.5, section 5.2.9; docs/TABLES.md, section 10).
 // Every question takes a slice that is meant to be the table, and has an answer for any slice.
+#![tactic(auto)]
+
 ghost use Rattle.std.specs.Prelude.{◌≡◌, ◌+◌, ◌≤◌, ◌<◌, length};
 ghost use Rattle.fadt.specs.Room.{lacks, early};
 ghost use Rattle.fadt.specs.Forms.{form_of};
@@ -31,7 +33,7 @@ fn early(table: &[u8]) -> bool
 }
 
 // Which form of an address counts. Short: the table does not hold the bytes that would tell.
-#[derive(Drop)]
+#[derive(Clone, Copy)]
 enum Form {
     Wide,
     Narrow,
@@ -59,7 +61,7 @@ fn form_of(table: &[u8], at: usize) -> Form
 }
 
 // A number of the table, or why there is none.
-#[derive(Drop)]
+#[derive(Clone, Copy)]
 pub enum Value {
     Found(u64),
     Refused(u32),
@@ -122,7 +124,7 @@ pub fn arm_boot_arch(table: &[u8]) -> Value
 }
 
 // The register blocks, in the order in which the table has them.
-#[derive(Drop)]
+#[derive(Clone, Copy)]
 pub enum RegisterBlock {
     Pm1aEvent,
     Pm1bEvent,
@@ -136,7 +138,7 @@ pub enum RegisterBlock {
 
 // How a register block is described: where its narrow address, its length byte and its wide form stand, whether it
 // answers though its address is zero, and whether it is there only with a length byte of 4.
-#[derive(Drop)]
+#[derive(Clone, Copy)]
 struct Place {
     narrow: usize,
     size: usize,
@@ -334,7 +336,7 @@ pub fn sleep_status_register(table: &[u8]) -> Generic
 }
 
 // The plain fields of the fixed part, under the names of the Rust crate. The last two are flags.
-#[derive(Drop)]
+#[derive(Clone, Copy)]
 pub struct Fixed {
     pub sci_interrupt: u16,
     pub smi_cmd_port: u32,
@@ -358,7 +360,7 @@ pub struct Fixed {
 }
 
 // The plain fields, or why there are none.
-#[derive(Drop)]
+#[derive(Clone, Copy)]
 pub enum Plain {
     Fields(Fixed),
     Refused(u32),
@@ -403,7 +405,7 @@ pub fn fixed_fields(table: &[u8]) -> Plain
 }
 
 // What the machine is for, under the names of the Rust crate.
-#[derive(Drop)]
+#[derive(Clone, Copy)]
 pub enum PowerProfile {
     Unspecified,
     Desktop,
@@ -418,7 +420,7 @@ pub enum PowerProfile {
 }
 
 // The power profile that the maker prefers, or why it can not be told.
-#[derive(Drop)]
+#[derive(Clone, Copy)]
 pub enum Preferred {
     Profile(PowerProfile),
     Refused(u32),

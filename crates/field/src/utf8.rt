@@ -4,7 +4,7 @@ ghost use Rattle.field.specs.Text.{table, following_in, well_formed};
 ghost use Rattle.field.specs.Walk.{spans_of, meaning, well_formed_after};
 
 // So many bytes are left to come, and the next is from low to high; those behind it are from 80 to bf.
-#[derive(Drop)]
+#[derive(Clone, Copy)]
 pub struct Expected {
     pub left: u8,
     pub low: u8,
@@ -12,7 +12,7 @@ pub struct Expected {
 }
 
 // What a byte leads to: the bytes are not well formed, or more is expected.
-#[derive(Drop)]
+#[derive(Clone, Copy)]
 pub enum Ahead {
     Ill,
     Expect(Expected),

@@ -1,10 +1,12 @@
 // The HPET table: the event timer block (IA-PC HPET Specification 1.0a, section 3.2.4).
+#![tactic(auto)]
+
 ghost use Rattle.std.specs.Prelude.{◌≡◌, ◌≤◌, length};
 ghost use Rattle.hpet.specs.Hpet.{hpet_of, info_of, protection_of};
 
 use address::AddressSpace;
 
-#[derive(Drop)]
+#[derive(Clone, Copy)]
 pub enum PageProtection {
     None,
     Protected4K,
@@ -13,7 +15,7 @@ pub enum PageProtection {
 }
 
 // The names are those of the Rust crate, where some of these are methods that take the block id apart.
-#[derive(Drop)]
+#[derive(Clone, Copy)]
 pub struct HpetInfo {
     pub event_timer_block_id: u32,
     pub hardware_rev: u8,
@@ -27,7 +29,7 @@ pub struct HpetInfo {
     pub page_protection: PageProtection,
 }
 
-#[derive(Drop)]
+#[derive(Clone, Copy)]
 pub enum Hpet {
     Info(HpetInfo),
     Refused(u32),

@@ -1,5 +1,7 @@
 // The Multiple APIC Description Table: its fixed part, and the walk through its entries.
 // A table is any slice of bytes; what is no such table, and what is no entry, is refused.
+#![tactic(auto)]
+
 ghost use Rattle.std.specs.Prelude.{◌≡◌};
 ghost use Rattle.madt.specs.Kinds.{kind_of, least_length};
 ghost use Rattle.madt.specs.Fixed.{not_madt, fixed_of};
@@ -7,7 +9,7 @@ ghost use Rattle.madt.specs.Entries.{next_at, nth, entries, entry_of};
 
 // The kinds of entries, by the names of the interrupt controller structures. Foreign are those of other
 // interrupt models; Reserved are those that the specification keeps for later or leaves to the maker.
-#[derive(Drop)]
+#[derive(Clone, Copy)]
 pub enum Kind {
     LocalApic,
     IoApic,
@@ -67,14 +69,14 @@ pub fn least_length(kind: Kind) -> usize
     }
 }
 
-#[derive(Drop)]
+#[derive(Clone, Copy)]
 pub struct Madt {
     pub local_apic_address: u32,
     pub flags: u32,
     pub supports_8259: bool,
 }
 
-#[derive(Drop)]
+#[derive(Clone, Copy)]
 pub enum Fixed {
     Part(Madt),
     Refused(u32),
@@ -104,7 +106,7 @@ pub fn fixed_part(table: &[u8]) -> Fixed
 }
 
 // An entry by its kind, the kind's number, its offset in the table and its length.
-#[derive(Drop)]
+#[derive(Clone, Copy)]
 pub struct MadtEntry {
     pub kind: Kind,
     pub number: u8,
@@ -113,7 +115,7 @@ pub struct MadtEntry {
 }
 
 // What stands at a place of the table.
-#[derive(Drop)]
+#[derive(Clone, Copy)]
 pub enum Next {
     Entry(MadtEntry),
     Fault,
@@ -147,7 +149,7 @@ pub fn next_entry(table: &[u8], at: usize) -> Next
     })
 }
 
-#[derive(Drop)]
+#[derive(Clone, Copy)]
 pub enum Found {
     Entry(MadtEntry),
     Refused(u32),

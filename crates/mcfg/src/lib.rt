@@ -1,10 +1,12 @@
 // The MCFG table: where the configuration space of PCI functions lies in memory (PCI Firmware Specification 3.x, section 4.1.2).
+#![tactic(auto)]
+
 ghost use Rattle.std.specs.Prelude.{◌≡◌, true, ◌+◌, ◌≤◌, length};
 ghost use Rattle.mcfg.specs.Entries.{wrong_length, entry_at, entries, entry_count_of, entry_of};
 ghost use Rattle.mcfg.specs.Physical.{includes, window_of, address_in, physical_address_of};
 
 // An entry, under the names of the Rust crate: a window for the buses from the first to the last of a segment group.
-#[derive(Drop)]
+#[derive(Clone, Copy)]
 pub struct McfgEntry {
     pub base_address: u64,
     pub pci_segment_group: u16,
@@ -12,26 +14,26 @@ pub struct McfgEntry {
     pub bus_number_end: u8,
 }
 
-#[derive(Drop)]
+#[derive(Clone, Copy)]
 pub enum EntryCount {
     Count(usize),
     Refused(u32),
 }
 
-#[derive(Drop)]
+#[derive(Clone, Copy)]
 pub enum KthEntry {
     Entry(McfgEntry),
     Refused(u32),
 }
 
-#[derive(Drop)]
+#[derive(Clone, Copy)]
 pub enum PhysicalAddress {
     Address(u64),
     Refused(u32),
 }
 
 // The window that holds a bus, where there is one.
-#[derive(Drop)]
+#[derive(Clone, Copy)]
 pub enum Window {
     Through(McfgEntry),
     Nowhere,

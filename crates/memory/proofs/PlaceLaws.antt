@@ -2,18 +2,18 @@
 use Prim.Native.Nat.{ℕ, zero, suc, ◌+◌, ◌-◌, ◌*◌, ◌≤◌, ◌<◌, min}
 use mathlib.Core.Path.{◌≡◌, refl, ap, ap₂, sym, ◌∙◌}
 use mathlib.Core.List.{List, [], ◌∷◌, ◌++◌}
-use mathlib.Core.Bool.{Bool, true, false, ◌&&◌}
+use mathlib.Core.Bool.{Bool, true, false}
 use mathlib.Core.Logic.{◌⊎◌, ⊎_elim}
 use native.Mathlib.Omega.{arith}
 use native.Mathlib.Decide.{dec_le}
-use lib.ListN.{length, get_or, take, drop, set, length-take, length-drop, length-set}
+use lib.ListN.{length, get_or, take, drop, set, length-take, length-drop}
 use lib.Seq.{take-take, take_all, get_or-drop, ext_get_or, drop-set-lt, drop-set-add, take-set-le}
 use Rattle.field.specs.Part.{part}
 use Rattle.field.proofs.FirstLaws.{when_hit, when_pass}
 use Rattle.field.proofs.PartLaws.{part_length, part_at}
 use Rattle.memory.specs.Ranges.{ranges_of, inside, all_inside, follows, ordered, right}
-use Rattle.memory.specs.Places.{holds, place_in, place_of, bytes_at, view_of, Elsewhere}
-use Rattle.memory.specs.Statements.{OneHolder, InsideTheSlice, Within, InsideOneRange, ReadableIfHeld, OtherBytesStay}
+use Rattle.memory.specs.Places.{holds, place_in, place_of, bytes_at, view_of}
+use Rattle.memory.specs.Statements.{OneHolder, InsideTheSlice, InsideOneRange, ReadableIfHeld, OtherBytesStay}
 use Rattle.memory.specs.Walk.{range_at}
 use Rattle.memory.specs.declared.Range.{Range}
 use Rattle.memory.specs.declared.Place.{Place}

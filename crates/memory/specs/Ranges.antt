@@ -1,5 +1,5 @@
 -- The list of ranges (docs/TABLES.md, "Memory"): which lists are right.
-use Rattle.std.specs.Prelude.{ℕ, ◌+◌, ◌-◌, ◌*◌, ◌/◌, ◌%◌, ◌^◌, List, [], ◌∷◌, Bool, true, false, ◌&&◌, leb, ltb, eqb, length}
+use Rattle.std.specs.Prelude.{ℕ, ◌+◌, ◌/◌, ◌%◌, ◌^◌, List, [], ◌∷◌, Bool, true, ◌&&◌, leb, ltb, eqb, length}
 use Rattle.memory.specs.declared.Range.{Range}
 
 -- the list is flat, three numbers to a range

@@ -1,10 +1,9 @@
 -- What is shown of ranges and places beside the contracts.
-use Rattle.std.specs.Prelude.{ℕ, suc, ◌+◌, ◌-◌, ◌≤◌, ◌<◌, ◌≡◌, List, ◌∷◌, ◌++◌, true, length, take, set}
+use Rattle.std.specs.Prelude.{ℕ, suc, ◌+◌, ◌≤◌, ◌<◌, ◌≡◌, List, ◌∷◌, ◌++◌, true, length, take, set}
 use Rattle.memory.specs.Ranges.{ranges_of, right}
 use Rattle.memory.specs.Places.{holds, place_in, place_of, view_of, Elsewhere}
 use Rattle.memory.specs.declared.Range.{Range}
-use Rattle.memory.specs.declared.Place.{Place}
-use Rattle.memory.specs.declared.Place.TheVariants.{At, Unmapped}
+use Rattle.memory.specs.declared.Place.TheVariants.{At}
 
 -- In a right list the first range that holds an address is the one that holds it: any that does gives the place.
 abbrev pub OneHolder : Type 0

@@ -1,5 +1,7 @@
 // The one place that knows ranges: whether a list of them is right, and where in the slice a physical address stands.
 // Addresses are compared and subtracted, and never added to before a range is found.
+#![tactic(auto)]
+
 ghost use Rattle.std.specs.Prelude.{◌≡◌, true, ◌+◌, ◌^◌, ◌≤◌, ◌<◌, length};
 ghost use Rattle.memory.specs.Ranges.{ranges_of, inside, all_inside, follows, ordered, right};
 ghost use Rattle.memory.specs.Places.{holds, place_in, place_of, view_of};
@@ -8,7 +10,7 @@ ghost use Rattle.memory.specs.Walk.{range_at};
 const MOST_RANGES: usize = 64;
 
 // So many bytes from the physical start on stand in the slice from the offset on.
-#[derive(Drop)]
+#[derive(Clone, Copy)]
 pub struct Range {
     pub start: u64,
     pub len: u64,
@@ -16,7 +18,7 @@ pub struct Range {
 }
 
 // Where an address stands: its offset in the slice, and how many bytes its range has from there on.
-#[derive(Drop)]
+#[derive(Clone, Copy)]
 pub enum Place {
     At(usize, usize),
     Unmapped,

@@ -1,6 +1,8 @@
 // The interrupt model of the machine, read out of the MADT: how many processors, controllers, overrides and
 // non-maskable interrupts it has, and the lists of them. Every question takes a slice that is meant to be the
 // table, and has an answer for any slice.
+#![tactic(auto)]
+
 ghost use Rattle.std.specs.Prelude.{◌≡◌, false, ◌+◌, ◌≤◌, ◌%◌, length};
 ghost use Rattle.std.proofs.lemmas.List.Edits.{sets};
 ghost use Rattle.field.specs.Number.{number};
@@ -24,7 +26,7 @@ const FIXED_PART: usize = 44;
 // The model, by the names of the Rust crate: how many records each of its lists has, the address of the local
 // interrupt controllers, and whether the machine also has the old pair of controllers. It is known if an entry of
 // this model is there; where it is not known, all lists are empty.
-#[derive(Drop)]
+#[derive(Clone, Copy)]
 pub struct Model {
     pub known: bool,
     pub local_apic_address: u64,
@@ -36,7 +38,7 @@ pub struct Model {
     pub local_apic_nmi_lines: usize,
 }
 
-#[derive(Drop)]
+#[derive(Clone, Copy)]
 pub enum Answer {
     Model(Model),
     Refused(u32),
@@ -131,7 +133,7 @@ fn address_after(table: &[u8], address: u64, at: usize, kind: Kind) -> u64
 }
 
 // What going through all entries tells: a fault, or whether an entry is wrong, and the model.
-#[derive(Drop)]
+#[derive(Clone, Copy)]
 enum Seen {
     Fault,
     Whole(bool, Model),
@@ -208,7 +210,7 @@ pub fn interrupt_model(table: &[u8]) -> Answer
 }
 
 // An entry's record: the list that it goes to, and its words.
-#[derive(Drop)]
+#[derive(Clone, Copy)]
 enum Words {
     Nothing,
     Two(usize, u32, u32),
@@ -488,7 +490,7 @@ pub fn fill(
     0
 }
 
-#[derive(Drop)]
+#[derive(Clone, Copy)]
 pub enum Mailbox {
     Address(u64),
     Refused(u32),

@@ -1,4 +1,6 @@
 // The root pointer: whether one stands at an address and what it says, and the search for it.
+#![tactic(auto)]
+
 ghost use Rattle.std.specs.Prelude.{◌≡◌, true, ◌+◌, ◌-◌, ◌*◌, ◌/◌, ◌^◌, ◌≤◌, min, eqb, length, drop};
 ghost use Rattle.field.specs.Choice.{nth_valid};
 ghost use Rattle.memory.specs.Ranges.{right};
@@ -38,7 +40,7 @@ const PLACES_IN_AN_AREA: u64 = 8191;
 const PLACES_IN_A_KILOBYTE: u64 = 63;
 
 // What a valid root pointer says. The length is 20 where the revision is 0, and there is no XSDT then.
-#[derive(Drop)]
+#[derive(Clone, Copy)]
 pub struct Rsdp {
     pub revision: u8,
     pub length: u32,
@@ -46,21 +48,21 @@ pub struct Rsdp {
     pub xsdt_address: u64,
 }
 
-#[derive(Drop)]
+#[derive(Clone, Copy)]
 pub enum RootPointer {
     Valid(Rsdp),
     Refused(u32),
 }
 
 // Where a search found a valid root pointer.
-#[derive(Drop)]
+#[derive(Clone, Copy)]
 pub enum Search {
     At(u64),
     Refused(u32),
 }
 
 // Addresses 16 bytes apart at which a root pointer may stand.
-#[derive(Drop)]
+#[derive(Clone, Copy)]
 pub struct Area {
     pub start: u64,
     pub places: u64,

@@ -1,10 +1,9 @@
 -- Laws about refusals of a table: what each finding of the reader makes of the answer, and what a valid table is.
-use Prim.Native.Nat.{ℕ, zero, suc, ◌+◌, ◌%◌, ◌≤◌, ◌<◌, max}
+use Prim.Native.Nat.{ℕ, ◌+◌, ◌%◌, ◌≤◌, ◌<◌, max}
 use mathlib.Core.Path.{◌≡◌, refl, ap, ap₂, sym, ◌∙◌}
-use mathlib.Core.List.{List, [], ◌∷◌, ◌++◌}
+use mathlib.Core.List.{List, [], ◌∷◌}
 use mathlib.Core.Bool.{Bool, true, false, not, ◌&&◌}
 use native.Mathlib.Omega.{arith}
-use borrow.Author.Tests.{not-true, not-false}
 use lib.Dec.{T}
 use lib.ListN.{length, take}
 use Rattle.field.specs.First.{less, differ, when, Reason, ◌gives◌, first_number}
@@ -12,12 +11,12 @@ use Rattle.field.specs.Number.{number}
 use Rattle.field.specs.Part.{part}
 use Rattle.field.specs.Sum.{sum}
 use Rattle.field.specs.Text.{text}
-use Rattle.field.proofs.FirstLaws.{less_yes, less_no, less_false, differ_yes, differ_no, differ_false, hit, pass, clear, Clear, all_clear, positive, append_stops, append_passes, ascends, ascending}
+use Rattle.field.proofs.FirstLaws.{less_yes, less_no, less_false, differ_yes, differ_no, differ_false, hit, pass, clear, all_clear, positive, append_stops, append_passes, ascends, ascending}
 use Rattle.field.proofs.NumberLaws.{number_take}
 use Rattle.field.proofs.PartLaws.{part_of_take}
-use Rattle.sdt.specs.Header.{header_size, signature_of, length_of, maker_of, table_id_of, whole_of}
+use Rattle.sdt.specs.Header.{header_size, length_of, maker_of, table_id_of, whole_of}
 use Rattle.sdt.specs.Valid.{wrong_signature, wrong_sum, cut_off, header_reasons, table_reasons, table_refusal, root_reasons, root_refusal}
-use Rattle.sdt.specs.Statements.{ValidTable, ValidSums, ValidRootSums, TableBytes, RootBytes, TableReasonsAscend, RootReasonsAscend}
+use Rattle.sdt.specs.Statements.{ValidSums, ValidRootSums, TableBytes, RootBytes, TableReasonsAscend, RootReasonsAscend}
 use Rattle.sdt.specs.declared.Wanted.{Wanted}
 use Rattle.sdt.specs.declared.Wanted.TheVariants.{Signature, Any}
 

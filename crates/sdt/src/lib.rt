@@ -1,5 +1,7 @@
 // The header that all tables begin with: whether the table at the start of a view is valid, or the number that refuses it.
 // A view is the slice from the table's start to the end of what is mapped there.
+#![tactic(auto)]
+
 ghost use Rattle.std.specs.Prelude.{◌≡◌, ◌≤◌, max, length};
 ghost use Rattle.field.specs.First.{less, when, first_number};
 ghost use Rattle.sdt.specs.Header.{header_size, length_of};
@@ -23,7 +25,7 @@ pub const TOO_SHORT: u32 = 11;
 pub const NO_VALID_TABLE: u32 = 12;
 
 // The signature that whoever asks wants, or any.
-#[derive(Drop)]
+#[derive(Clone, Copy)]
 pub enum Wanted {
     Signature(u32),
     Any,

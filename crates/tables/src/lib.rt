@@ -1,4 +1,6 @@
 // From the root pointer to valid tables: the root table, its entries, and finding a table by its signature.
+#![tactic(auto)]
+
 ghost use Rattle.std.specs.Prelude.{◌≡◌, true, ◌+◌, ◌-◌, ◌*◌, ◌/◌, ◌^◌, ◌≤◌, ◌<◌, length};
 ghost use Rattle.field.specs.Number.{number};
 ghost use Rattle.field.specs.Choice.{nth_valid};
@@ -21,14 +23,14 @@ const RSDT: u32 = 0x5444_5352;
 
 const XSDT: u32 = 0x5444_5358;
 
-#[derive(Drop)]
+#[derive(Clone, Copy)]
 pub enum RootKind {
     Rsdt,
     Xsdt,
 }
 
 // A valid root table: where it stands in memory and in the slice, and what it lists.
-#[derive(Drop)]
+#[derive(Clone, Copy)]
 pub struct RootTable {
     pub kind: RootKind,
     pub address: u64,
@@ -38,28 +40,28 @@ pub struct RootTable {
     pub entries: usize,
 }
 
-#[derive(Drop)]
+#[derive(Clone, Copy)]
 pub enum Root {
     Table(RootTable),
     Refused(u32),
 }
 
 // A valid table: its physical address, its offset in the slice and its length.
-#[derive(Drop)]
+#[derive(Clone, Copy)]
 pub struct Table {
     pub address: u64,
     pub at: usize,
     pub len: usize,
 }
 
-#[derive(Drop)]
+#[derive(Clone, Copy)]
 pub enum Found {
     Table(Table),
     Refused(u32),
 }
 
 // An address that the root table lists.
-#[derive(Drop)]
+#[derive(Clone, Copy)]
 pub enum Entry {
     At(u64),
     Refused(u32),

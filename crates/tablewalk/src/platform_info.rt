@@ -48,7 +48,7 @@ fn wide_timer(table: &[u8]) -> bool
 }
 
 // The seven numbers that are reported of the timer, all zero where there is none.
-#[derive(Drop)]
+#[derive(Clone, Copy)]
 struct Timer {
     there: u64,
     space: u64,
@@ -59,7 +59,7 @@ struct Timer {
     wide: u64,
 }
 
-#[derive(Drop)]
+#[derive(Clone, Copy)]
 enum TimerPart {
     Is(Timer),
     Refused(u32),
