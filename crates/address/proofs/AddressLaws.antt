@@ -1,11 +1,5 @@
 -- Laws about generic addresses, their spaces and their access sizes.
-use Prim.Native.Nat.{ℕ, zero, suc, ◌+◌, ◌<◌}
-use mathlib.Core.Path.{◌≡◌, refl, sym, ◌∙◌}
-use mathlib.Core.List.{List, [], ◌∷◌, map}
-use mathlib.Core.Bool.{Bool, true, false}
-use native.Mathlib.Nat.{add-suc, suc-add, zero-add, le_of_suc-le-suc, not-suc-le-zero}
-use native.Mathlib.Omega.{arith}
-use lib.ListN.{length, get_or}
+use Rattle.std.proofs.Common.{ℕ, zero, suc, ◌+◌, ◌<◌, ◌≡◌, refl, sym, ◌∙◌, List, [], ◌∷◌, map, Bool, true, false, add-suc, suc-add, zero-add, le_of_suc-le-suc, not-suc-le-zero, arith, length, get_or}
 use Rattle.field.specs.First.{when}
 use Rattle.field.proofs.FirstLaws.{less_true, less_false}
 use Rattle.address.specs.Space.{spaces, space_number, space_of, SpaceHasItsNumber}

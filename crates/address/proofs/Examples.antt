@@ -1,8 +1,6 @@
 -- The definitions on a few bytes: a 32-bit register at 0xfed00000 in memory, the same with a reserved space, and with a
 -- reserved access size.
-use Prim.Native.Nat.{ℕ}
-use mathlib.Core.Path.{◌≡◌, refl}
-use mathlib.Core.List.{List, [], ◌∷◌}
+use Rattle.std.proofs.Common.{ℕ, ◌≡◌, refl, List, [], ◌∷◌}
 use Rattle.field.specs.Number.{number}
 use Rattle.field.specs.First.{less, when}
 use Rattle.address.specs.Space.{space_of}

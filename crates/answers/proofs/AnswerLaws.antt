@@ -1,12 +1,7 @@
 -- Laws about answers and buffers: what each way out of a writer reports.
-use Prim.Native.Nat.{ℕ, suc, ◌+◌, ◌≤◌, ◌<◌}
-use native.Mathlib.Numerals.{add-one}
-use mathlib.Core.Path.{◌≡◌, refl, ap, sym, ◌∙◌, subst}
-use mathlib.Core.Bool.{not}
+use Rattle.std.proofs.Common.{ℕ, suc, ◌+◌, ◌≤◌, ◌<◌, add-one, ◌≡◌, refl, ap, sym, ◌∙◌, subst, not, List, length, get_or, set, drop, drop_of_length-le, drop-cons}
 use Rattle.field.specs.First.{differ, when}
-use mathlib.Core.List.{List}
-use lib.ListN.{length, get_or, set, drop, drop_of_length-le}
-use lib.Seq.{sets, drop-cons}
+use lib.Seq.{sets}
 use Rattle.field.proofs.FirstLaws.{less_yes, less_no, differ_yes, differ_no, when_hit, when_pass}
 use Rattle.answers.specs.Answer.{Answer, number_of, buffer_after, Reported}
 use Rattle.answers.specs.Answer.Answer.{values, refused}

@@ -1,9 +1,5 @@
 -- Small tables, worked out: each answer is computed from the bytes.
-use Prim.Native.Nat.{ℕ}
-use mathlib.Core.Path.{◌≡◌, refl}
-use mathlib.Core.List.{List}
-use mathlib.Core.Bool.{true, false}
-use lib.ListN.{replicate, set}
+use Rattle.std.proofs.Common.{ℕ, ◌≡◌, refl, List, true, false, replicate, set}
 use Rattle.field.specs.Number.{number}
 use Rattle.field.specs.First.{less, differ, when}
 use Rattle.address.specs.declared.AddressSpace.TheVariants.{SystemIo}

@@ -1,9 +1,6 @@
 -- A law about flags.
-use Prim.Native.Nat.{ℕ, ◌^◌, ◌≤◌, ◌<◌}
-use native.Mathlib.Nat.{div-eq_of_lt, pow-le-pow_right, lt_of_lt_of_le}
-use mathlib.Core.Path.{◌≡◌}
-use mathlib.Core.Bool.{false}
-use native.Mathlib.Omega.{arith}
+use Rattle.std.proofs.Common.{ℕ, ◌^◌, ◌≤◌, ◌<◌, lt_of_lt_of_le, ◌≡◌, false, arith}
+use native.Mathlib.Nat.{div-eq_of_lt, pow-le-pow_right}
 use Rattle.fadt.specs.Flags.{flag_of}
 
 -- A number below 2 ^ 64 has no bits from 64 on.

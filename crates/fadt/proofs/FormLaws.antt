@@ -1,8 +1,5 @@
 -- Laws about which form of an address counts.
-use Prim.Native.Nat.{ℕ, ◌+◌}
-use mathlib.Core.Path.{◌≡◌, refl, subst}
-use mathlib.Core.List.{List}
-use mathlib.Core.Bool.{Bool, true, false}
+use Rattle.std.proofs.Common.{ℕ, ◌+◌, ◌≡◌, refl, subst, List, Bool, true, false}
 use Rattle.field.specs.Number.{number}
 use Rattle.field.specs.First.{differ, when}
 use Rattle.fadt.specs.Room.{lacks, early}

@@ -1,9 +1,5 @@
 -- A law about lists.
-use Prim.Native.Nat.{ℕ, zero, suc, ◌<◌}
-use native.Mathlib.Nat.{le_of_suc-le-suc, not-suc-le-zero}
-use mathlib.Core.Path.{◌≡◌, refl}
-use mathlib.Core.List.{List, [], ◌∷◌, map}
-use lib.ListN.{length, get_or}
+use Rattle.std.proofs.Common.{ℕ, zero, suc, ◌<◌, le_of_suc-le-suc, not-suc-le-zero, ◌≡◌, refl, List, [], ◌∷◌, map, length, get_or}
 
 -- What stands in a list, mapped, is what stands in the mapped list, whatever would stand behind their ends.
 pub in_map : {A B : Type 0} (f : A → B) (l : List A) (k : ℕ) (d : A) (e : B) → k < length l → f (get_or l k d) ≡ get_or (map f l) k e

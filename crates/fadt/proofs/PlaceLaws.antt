@@ -1,10 +1,5 @@
 -- Laws about the register blocks.
-use Prim.Native.Nat.{ℕ, zero, suc, ◌<◌}
-use native.Mathlib.Nat.{le_of_suc-le-suc, not-suc-le-zero}
-use mathlib.Core.Path.{◌≡◌, refl}
-use mathlib.Core.List.{List, [], ◌∷◌, map}
-use borrow.Author.Rules.{rules}
-use lib.ListN.{length, get_or}
+use Rattle.std.proofs.Common.{ℕ, zero, suc, ◌<◌, le_of_suc-le-suc, not-suc-le-zero, ◌≡◌, refl, List, [], ◌∷◌, map, rules, length, get_or}
 use Rattle.fadt.specs.Blocks.{Inside, place_of, block_number, blocks, register_block, nth_register_block}
 use Rattle.fadt.specs.declared.Place.{Place}
 use Rattle.fadt.specs.declared.RegisterBlock.{RegisterBlock}

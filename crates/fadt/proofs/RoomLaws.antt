@@ -1,9 +1,5 @@
 -- Laws about whether a table holds a field.
-use Prim.Native.Nat.{ℕ, ◌≤◌}
-use mathlib.Core.Path.{◌≡◌, refl, sym, ◌∙◌}
-use mathlib.Core.List.{List}
-use mathlib.Core.Bool.{Bool, true, false, ◌||◌}
-use lib.ListN.{length}
+use Rattle.std.proofs.Common.{ℕ, ◌≤◌, ◌≡◌, refl, sym, ◌∙◌, List, Bool, true, false, ◌||◌, length}
 use Rattle.field.specs.Number.{number}
 use Rattle.field.specs.First.{less, differ}
 use Rattle.field.proofs.FirstLaws.{less_false}

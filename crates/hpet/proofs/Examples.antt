@@ -1,9 +1,5 @@
 -- The definitions on a table of 56 bytes: timers of Intel's at 0xfed00000, three comparators, and on the same in I/O space.
-use Prim.Native.Nat.{ℕ}
-use mathlib.Core.Path.{◌≡◌, refl}
-use mathlib.Core.List.{List, [], ◌∷◌, ◌++◌}
-use mathlib.Core.Bool.{true}
-use lib.ListN.{replicate}
+use Rattle.std.proofs.Common.{ℕ, ◌≡◌, refl, List, [], ◌∷◌, ◌++◌, true, replicate}
 use Rattle.field.specs.Number.{number}
 use Rattle.field.specs.First.{less, differ, when}
 use Rattle.hpet.specs.Hpet.{protection_of, info_of, hpet_of}

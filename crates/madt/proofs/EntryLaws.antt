@@ -1,12 +1,5 @@
 -- Laws about the walk through the entries.
-use Prim.Native.Nat.{ℕ, zero, suc, ◌+◌, ◌-◌, ◌≤◌, ◌<◌}
-use mathlib.Core.Path.{◌≡◌, refl, ap, sym, ◌∙◌}
-use mathlib.Core.List.{List, [], ◌∷◌, append-nil}
-use mathlib.Core.Bool.{Bool, true, false, true≢false}
-use native.Mathlib.Numerals.{sub-one}
-use native.Mathlib.Omega.{arith}
-use lib.ListN.{length, drop, drop_of_length-le, take-append-drop}
-use lib.Seq.{drop-drop}
+use Rattle.std.proofs.Common.{ℕ, zero, suc, ◌+◌, ◌-◌, ◌≤◌, ◌<◌, ◌≡◌, refl, ap, sym, ◌∙◌, List, [], ◌∷◌, append-nil, Bool, true, false, true≢false, sub-one, arith, length, drop, drop_of_length-le, take-append-drop, drop-drop}
 use Rattle.field.specs.Part.{part}
 use Rattle.field.specs.Number.{number}
 use Rattle.field.specs.First.{when, less}

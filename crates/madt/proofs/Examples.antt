@@ -1,7 +1,5 @@
 -- Small tables, worked out by the definitions: they test the definitions, and nothing is proved from them.
-use Prim.Native.Nat.{ℕ}
-use mathlib.Core.Path.{◌≡◌, refl}
-use mathlib.Core.List.{List, [], ◌∷◌, ◌++◌}
+use Rattle.std.proofs.Common.{ℕ, ◌≡◌, refl, List, [], ◌∷◌, ◌++◌}
 use Rattle.field.specs.Number.{number}
 use Rattle.field.specs.First.{when, less}
 use Rattle.madt.specs.declared.Kind.TheVariants.{

@@ -1,10 +1,5 @@
 -- Laws about the fixed part.
-use Prim.Native.Nat.{ℕ, ◌≤◌, ◌<◌}
-use mathlib.Core.Path.{◌≡◌, refl}
-use mathlib.Core.List.{List}
-use mathlib.Core.Bool.{Bool, true, false, ◌||◌}
-use native.Mathlib.Omega.{arith}
-use lib.ListN.{length}
+use Rattle.std.proofs.Common.{ℕ, ◌≤◌, ◌<◌, ◌≡◌, refl, List, Bool, true, false, ◌||◌, arith, length}
 use Rattle.field.specs.Number.{number}
 use Rattle.field.specs.First.{when, less, differ}
 use Rattle.field.proofs.FirstLaws.{less_yes, less_no, less_false, when_hit, when_pass}

@@ -1,10 +1,6 @@
 -- Laws about the kinds of entries.
-use Prim.Native.Nat.{ℕ, suc, ◌+◌, ◌-◌, ◌≤◌, ◌<◌, zero-le}
-use mathlib.Core.Path.{◌≡◌, ap, sym, ◌∙◌}
-use mathlib.Core.List.{List, ◌++◌}
-use native.Mathlib.Omega.{arith}
-use lib.ListN.{get_or, drop, replicate, length-replicate, get_or-replicate, get_or-append}
-use lib.Seq.{get_or-drop}
+use Rattle.std.proofs.Common.{ℕ, ◌+◌, ◌-◌, ◌≤◌, ◌<◌, ◌≡◌, ap, sym, ◌∙◌, List, ◌++◌, arith, get_or, drop, replicate, get_or-drop}
+use lib.ListN.{length-replicate, get_or-replicate, get_or-append}
 use Rattle.madt.specs.declared.Kind.{Kind}
 use Rattle.madt.specs.declared.Kind.TheVariants.{
   LocalApic,
@@ -35,33 +31,6 @@ run before n rest e m low high =
     ∙ (ap (λ l. get_or l (m - before) Reserved) e
     ∙ (get_or-append (replicate n Foreign) rest Reserved (m - before) (omega (arith, length-replicate n Foreign))
     ∙ get_or-replicate n (m - before) Foreign Reserved inside))))
-
--- A number that none of the arms for a single number has taken.
-abbrev Unnamed : ℕ → Type 0
-Unnamed n =
-    ((((((((Unit {0} × (n ≡ 0 → ⊥)) × (n ≡ 1 → ⊥)) × (n ≡ 2 → ⊥)) × (n ≡ 3 → ⊥)) × (n ≡ 4 → ⊥)) × (n ≡ 5 → ⊥))
-    × (n ≡ 9 → ⊥))
-    × (n ≡ 10 → ⊥))
-    × (n ≡ 16 → ⊥)
-
--- What is at least a and is not a is past a.
-next : {a n : ℕ} → a ≤ n → (n ≡ a → ⊥) → suc a ≤ n
-next h d = omega arith
-
-pub past_five : (n : ℕ) → Unnamed n → 6 ≤ n
-past_five n r =
-    let one : 1 ≤ n = next zero-le r.0.0.0.0.0.0.0.0.1 in
-    let two : 2 ≤ n = next one r.0.0.0.0.0.0.0.1 in
-    let three : 3 ≤ n = next two r.0.0.0.0.0.0.1 in
-    let four : 4 ≤ n = next three r.0.0.0.0.0.1 in
-    let five : 5 ≤ n = next four r.0.0.0.0.1 in
-    next five r.0.0.0.1
-
-pub past_ten : (n : ℕ) → Unnamed n → 9 ≤ n → 11 ≤ n
-past_ten n r h = next (next h r.0.0.1) r.0.1
-
-pub past_sixteen : (n : ℕ) → Unnamed n → 16 ≤ n → 17 ≤ n
-past_sixteen n r h = next h r.1
 
 -- Every kind needs the two bytes that say kind and length.
 pub at_least_two : (k : Kind) → 2 ≤ least_length k

@@ -1,11 +1,5 @@
 -- Laws about the list of entries.
-use Prim.Native.Nat.{ℕ, zero, suc, ◌+◌, ◌-◌, ◌*◌, ◌/◌, ◌<◌, ◌≤◌}
-use mathlib.Core.Path.{◌≡◌, refl, ap, ◌∙◌}
-use mathlib.Core.List.{List, [], ◌∷◌}
-use mathlib.Core.Bool.{Bool, true, false, ◌||◌}
-use native.Mathlib.Nat.{le_of_suc-le-suc, not-suc-le-zero}
-use native.Mathlib.Omega.{arith}
-use lib.ListN.{length}
+use Rattle.std.proofs.Common.{ℕ, zero, suc, ◌+◌, ◌-◌, ◌*◌, ◌/◌, ◌<◌, ◌≤◌, ◌≡◌, refl, ap, ◌∙◌, List, [], ◌∷◌, Bool, true, false, ◌||◌, le_of_suc-le-suc, not-suc-le-zero, arith, length}
 use Rattle.field.proofs.FirstLaws.{less_false}
 use Rattle.mcfg.specs.Entries.{wrong_length, entry_at, entries_at, entries_from, kth_of}
 use Rattle.mcfg.specs.declared.KthEntry.TheVariants.{Entry, Refused}

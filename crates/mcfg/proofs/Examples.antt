@@ -1,9 +1,6 @@
 -- The definitions on tables with one and two entries: a function of bus 12 in a window for 64 buses at 0xb0000000, the first of two
 -- windows for one bus, a sum of 2 ^ 64, and a rest of four bytes that is ignored.
-use Prim.Native.Nat.{ℕ, ◌+◌}
-use mathlib.Core.Path.{◌≡◌, refl}
-use mathlib.Core.List.{List, [], ◌∷◌, ◌++◌}
-use lib.ListN.{length, replicate}
+use Rattle.std.proofs.Common.{ℕ, ◌+◌, ◌≡◌, refl, List, [], ◌∷◌, ◌++◌, length, replicate}
 use Rattle.field.specs.Number.{number}
 use Rattle.field.specs.First.{less, differ, when}
 use Rattle.mcfg.specs.Entries.{wrong_length, entry_at, entries_at, entries_from, entries, entry_count_of}

@@ -1,12 +1,5 @@
 -- Laws about the first entry that includes a bus, and about the addresses in its window.
-use Prim.Native.Nat.{ℕ, ◌+◌, ◌-◌, ◌<◌, ◌≤◌}
-use mathlib.Core.Path.{◌≡◌, refl, subst}
-use mathlib.Core.List.{List, [], ◌∷◌}
-use mathlib.Core.Bool.{Bool, true, false, ◌&&◌}
-use native.Mathlib.Omega.{arith}
-use borrow.Author.Tests.{leb-true}
-use lib.Dec.{eqb, leb}
-use lib.ListN.{length}
+use Rattle.std.proofs.Common.{ℕ, ◌+◌, ◌-◌, ◌<◌, ◌≤◌, ◌≡◌, refl, subst, List, [], ◌∷◌, Bool, true, false, ◌&&◌, arith, leb-true, eqb, leb, length}
 use Rattle.field.specs.First.{when}
 use Rattle.field.proofs.FirstLaws.{less_false, when_hit, when_pass}
 use Rattle.mcfg.specs.Entries.{entry_at, entries_from, entries}

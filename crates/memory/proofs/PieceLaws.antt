@@ -1,6 +1,5 @@
 -- Laws about pieces: what changing a byte leaves alone.
-use mathlib.Core.Path.{sym}
-use mathlib.Core.List.{[], ◌∷◌}
+use Rattle.std.proofs.Common.{sym, [], ◌∷◌}
 use Rattle.field.specs.Choice.All.{none, with}
 use Rattle.field.proofs.ChoiceLaws.{all_map}
 use Rattle.memory.specs.Pieces.{Piece, OthersAgree, NotMappedOutside}

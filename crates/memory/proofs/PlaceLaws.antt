@@ -1,13 +1,7 @@
 -- Laws about places and views: the theorems of specs/Statements, and what the crates above use.
-use Prim.Native.Nat.{ℕ, zero, suc, ◌+◌, ◌-◌, ◌*◌, ◌≤◌, ◌<◌, min}
-use mathlib.Core.Path.{◌≡◌, refl, ap, ap₂, sym, ◌∙◌}
-use mathlib.Core.List.{List, [], ◌∷◌, ◌++◌}
-use mathlib.Core.Bool.{Bool, true, false}
-use mathlib.Core.Logic.{◌⊎◌, ⊎_elim}
-use native.Mathlib.Omega.{arith}
+use Rattle.std.proofs.Common.{ℕ, zero, suc, ◌+◌, ◌-◌, ◌*◌, ◌≤◌, ◌<◌, min, ◌≡◌, refl, ap, ap₂, sym, ◌∙◌, List, [], ◌∷◌, ◌++◌, Bool, true, false, ◌⊎◌, ⊎_elim, arith, length, get_or, take, drop, set, length-take, length-drop, take-take, take_all, get_or-drop, ext_get_or, drop-set-lt}
 use native.Mathlib.Decide.{dec_le}
-use lib.ListN.{length, get_or, take, drop, set, length-take, length-drop}
-use lib.Seq.{take-take, take_all, get_or-drop, ext_get_or, drop-set-lt, drop-set-add, take-set-le}
+use lib.Seq.{drop-set-add, take-set-le}
 use Rattle.field.specs.Part.{part}
 use Rattle.field.proofs.FirstLaws.{when_hit, when_pass}
 use Rattle.field.proofs.PartLaws.{part_length, part_at}

@@ -1,15 +1,8 @@
 -- Laws about the list of ranges: the walk over it, and what a right list gives.
-use Prim.Native.Nat.{ℕ, suc, ◌+◌, ◌-◌, ◌^◌, ◌/◌, ◌%◌, ◌≤◌, ◌<◌}
-use mathlib.Core.Path.{◌≡◌, refl}
-use mathlib.Core.List.{List, [], ◌∷◌}
-use mathlib.Core.Bool.{true, false, ◌&&◌}
+use Rattle.std.proofs.Common.{ℕ, suc, ◌+◌, ◌-◌, ◌^◌, ◌/◌, ◌%◌, ◌≤◌, ◌<◌, ◌≡◌, refl, List, [], ◌∷◌, true, false, ◌&&◌, arith, leb, ltb, eqb, le-leb, lt-ltb, le-ltb, eq-eqb, ne_eqb, leb-true, ltb-true, length, drop, length-drop, drop-cons}
 use native.Mathlib.Numerals.{towards_suc}
-use native.Mathlib.Omega.{arith}
 use native.Mathlib.Decide.{dec_le}
-use lib.Dec.{leb, ltb, eqb}
-use borrow.Author.Tests.{le-leb, lt-leb, lt-ltb, le-ltb, eq-eqb, ne_eqb, leb-true, ltb-true}
-use lib.ListN.{length, drop, length-drop}
-use lib.Seq.{drop-cons}
+use borrow.Author.Tests.{lt-leb}
 use Rattle.memory.specs.Ranges.{ranges_of, most_ranges, inside, all_inside, follows, ordered, right}
 use Rattle.memory.specs.Walk.{range_at}
 use Rattle.memory.specs.Places.{holds, place_in, place_of}

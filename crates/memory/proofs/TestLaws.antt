@@ -1,6 +1,6 @@
 -- Laws about tests that are joined by `&&`.
-use mathlib.Core.Path.{◌≡◌, refl}
-use mathlib.Core.Bool.{Bool, true, false, ◌&&◌, false≢true}
+use Rattle.std.proofs.Common.{◌≡◌, refl, Bool, true, false, ◌&&◌}
+use mathlib.Core.Bool.{false≢true}
 
 -- Both tests hold, or the first fails, or the second does.
 pub and_yes : (a b : Bool) → a ≡ true → b ≡ true → a && b ≡ true

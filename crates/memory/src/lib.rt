@@ -132,8 +132,8 @@ fn has(r: Range, p: u64) -> bool
 
 // Where an address that the range holds stands.
 fn place_in(r: Range, p: u64) -> Place
-    requires start_le_p { (r.start ≤ p) × (p ≤ r.start + r.len) }
-    requires len_bound { r.offset + r.len < 2 ^ 64 }
+    requires within { (r.start ≤ p) × (p ≤ r.start + r.len) }
+    requires addressable { r.offset + r.len < 2 ^ 64 }
     ensures { result ≡ place_in r p }
 {
     let into = p - r.start;

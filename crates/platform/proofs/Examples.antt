@@ -1,7 +1,5 @@
 -- Small tables, worked out by the definitions: they test the definitions, and nothing is proved from them.
-use mathlib.Core.Path.{◌≡◌, refl}
-use mathlib.Core.List.{[], ◌∷◌, ◌++◌}
-use mathlib.Core.Bool.{true, false}
+use Rattle.std.proofs.Common.{◌≡◌, refl, [], ◌∷◌, ◌++◌, true, false}
 use Rattle.field.specs.Number.{number}
 use Rattle.field.specs.First.{when, less, differ, first_number}
 use Rattle.madt.specs.Kinds.{kinds, kind_of}

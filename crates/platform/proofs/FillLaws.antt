@@ -1,11 +1,5 @@
 -- Laws about filling the lent tables.
-use Prim.Native.Nat.{ℕ, zero, suc, ◌+◌, ◌≤◌, ◌<◌}
-use mathlib.Core.Path.{◌≡◌, refl, ap, sym, ◌∙◌}
-use mathlib.Core.List.{List, [], ◌∷◌, ◌++◌}
-use mathlib.Core.Bool.{Bool, true, false}
-use native.Mathlib.Nat.{add-zero, zero-add, add-suc, suc-add}
-use native.Mathlib.Omega.{arith}
-use lib.ListN.{length, get_or, set, length-append}
+use Rattle.std.proofs.Common.{ℕ, zero, suc, ◌+◌, ◌≤◌, ◌<◌, ◌≡◌, refl, ap, sym, ◌∙◌, List, [], ◌∷◌, ◌++◌, Bool, true, false, add-zero, zero-add, add-suc, suc-add, arith, length, get_or, set, length-append}
 use lib.Seq.{sets, sets-eq, length-sets}
 use Rattle.field.specs.First.{differ}
 use Rattle.field.proofs.FirstLaws.{differ_yes, differ_no, differ_true, differ_false, when_hit, when_pass}

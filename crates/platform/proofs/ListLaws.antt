@@ -1,10 +1,6 @@
 -- Laws about functions of the entries: each by what stands at the front.
-use Prim.Native.Nat.{ℕ, suc, ◌+◌, ◌≤◌, ◌<◌}
-use mathlib.Core.Path.{◌≡◌, refl, ◌∙◌}
-use mathlib.Core.List.{List, [], ◌∷◌}
-use mathlib.Core.Bool.{Bool, true, false, ◌||◌, or_assoc, true≢false}
-use native.Mathlib.Omega.{arith}
-use lib.ListN.{length}
+use Rattle.std.proofs.Common.{ℕ, suc, ◌+◌, ◌≤◌, ◌<◌, ◌≡◌, refl, ◌∙◌, List, [], ◌∷◌, Bool, true, false, ◌||◌, true≢false, arith, length}
+use mathlib.Core.Bool.{or_assoc}
 use Rattle.field.specs.First.{when, differ}
 use Rattle.field.proofs.FirstLaws.{differ_yes, differ_no, when_hit, when_pass}
 use Rattle.madt.specs.Entries.{Item, next_at, entries_from, entries}

@@ -1,8 +1,6 @@
 -- Laws about the mailbox.
-use Prim.Native.Nat.{ℕ, ◌+◌}
-use mathlib.Core.Path.{◌≡◌, refl, ap, sym, ◌∙◌}
-use mathlib.Core.List.{List}
-use mathlib.Core.Bool.{true, false, false≢true}
+use Rattle.std.proofs.Common.{ℕ, ◌+◌, ◌≡◌, refl, ap, sym, ◌∙◌, List, true, false}
+use mathlib.Core.Bool.{false≢true}
 use Rattle.field.proofs.FirstLaws.{when_hit, when_pass}
 use Rattle.madt.specs.Kinds.{least_length}
 use Rattle.madt.specs.Fields.{value, mailbox_address}

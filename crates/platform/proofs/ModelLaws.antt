@@ -1,9 +1,5 @@
 -- Laws about the model and the numbers that refuse it.
-use Prim.Native.Nat.{ℕ}
-use mathlib.Core.Path.{◌≡◌, refl, ap, sym, ◌∙◌}
-use mathlib.Core.List.{List}
-use mathlib.Core.Bool.{Bool, true, false}
-use native.Mathlib.Omega.{arith}
+use Rattle.std.proofs.Common.{ℕ, ◌≡◌, refl, ap, sym, ◌∙◌, List, Bool, true, false, arith}
 use Rattle.field.specs.First.{first_number}
 use Rattle.field.proofs.FirstLaws.{differ_yes, differ_no, when_hit, when_pass, hit, pass, clear}
 use Rattle.madt.specs.Fixed.{not_madt, madt_of}

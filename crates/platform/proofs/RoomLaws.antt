@@ -1,13 +1,5 @@
 -- Laws about the room in the lent tables and the number that refuses to fill them.
-use Prim.Native.Nat.{ℕ, ◌*◌, ◌/◌, ◌≤◌}
-use mathlib.Core.Path.{◌≡◌, refl, ap, sym, ◌∙◌}
-use mathlib.Core.List.{List, [], ◌∷◌, ◌++◌}
-use mathlib.Core.Bool.{Bool, true, false, ◌||◌}
-use native.Mathlib.Nat.{mul-zero, mul-suc}
-use native.Mathlib.Omega.{arith}
-use borrow.Author.Tests.{ltb-true, ltb-false}
-use lib.Dec.{ltb, lit≤}
-use lib.ListN.{length, length-append}
+use Rattle.std.proofs.Common.{ℕ, ◌*◌, ◌/◌, ◌≤◌, ◌≡◌, refl, ap, sym, ◌∙◌, List, [], ◌∷◌, ◌++◌, Bool, true, false, ◌||◌, mul-zero, mul-suc, arith, ltb-true, ltb-false, ltb, lit≤, length, length-append}
 use Rattle.field.specs.First.{when, less, differ, Reason, first_number, Ascending}
 use Rattle.field.specs.First.Ascending.{no_more, then}
 use Rattle.field.specs.First.Reason.{◌gives◌}

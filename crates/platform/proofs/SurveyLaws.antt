@@ -1,11 +1,6 @@
 -- Laws about going through all entries once.
-use Prim.Native.Nat.{ℕ, zero, suc, ◌+◌, ◌≤◌, ◌<◌}
-use mathlib.Core.Path.{◌≡◌, refl, ap, sym, ◌∙◌}
-use mathlib.Core.List.{List, [], ◌∷◌}
-use mathlib.Core.Bool.{Bool, true, false, ◌||◌, or-false}
-use native.Mathlib.Omega.{arith}
-use lib.ListN.{length, get_or, set, length-set}
-use lib.Seq.{get_or-set_same, get_or-set_other}
+use Rattle.std.proofs.Common.{ℕ, zero, suc, ◌+◌, ◌≤◌, ◌<◌, ◌≡◌, refl, ap, sym, ◌∙◌, List, [], ◌∷◌, Bool, true, false, ◌||◌, arith, length, get_or, set, length-set, get_or-set_same, get_or-set_other}
+use mathlib.Core.Bool.{or-false}
 use Rattle.field.specs.First.{differ}
 use Rattle.field.proofs.FirstLaws.{differ_true, differ_false, differ_no, when_hit, when_pass}
 use Rattle.madt.specs.Entries.{next_at, entries_from, entries, faulty}

@@ -181,8 +181,8 @@ fn survey(table: &[u8], m: Madt) -> Seen
 
 // 15 goes before 16, wherever the entries stand.
 fn judged(table: &[u8], m: Madt) -> Answer
-    requires table_value { not_madt table.now ≡ false }
-    requires m_value { m ≡ madt_of table.now }
+    requires fixed_part { not_madt table.now ≡ false }
+    requires read_from_it { m ≡ madt_of table.now }
     ensures { result ≡ model_of table.now }
 {
     match survey(table, m) {
@@ -350,8 +350,8 @@ fn record_of(table: &[u8], enabled: u32, at: usize, kind: Kind) -> Words
 // Writes a record's words and answers the place behind them.
 fn write(out: &mut [u32], to: usize, words: Words) -> usize
     requires { to + length (spelled words) ≤ length out.old }
-    ensures value { result ≡ to + length (spelled words) }
-    ensures out_after { out.new ≡ sets out.old to (spelled words) }
+    ensures next { result ≡ to + length (spelled words) }
+    ensures written { out.new ≡ sets out.old to (spelled words) }
 {
     match words {
         Words::Nothing => to,
@@ -372,8 +372,8 @@ fn write(out: &mut [u32], to: usize, words: Words) -> usize
 // The same, if the record is of the list that `out` is for.
 fn put(list: usize, out: &mut [u32], to: usize, words: Words) -> usize
     requires { to + length (chosen list words) ≤ length out.old }
-    ensures value { result ≡ to + length (chosen list words) }
-    ensures out_after { out.new ≡ sets out.old to (chosen list words) }
+    ensures next { result ≡ to + length (chosen list words) }
+    ensures written { out.new ≡ sets out.old to (chosen list words) }
 {
     if goes_to(words) != list {
         return to;
@@ -397,7 +397,7 @@ fn fill_lists(
     nmi_sources: &mut [u32],
     local_apic_nmi_lines: &mut [u32],
 )
-    requires table_value { faulty (entries table.now) ≡ false }
+    requires faultless { faulty (entries table.now) ≡ false }
     requires rooms { Rooms table.now (length processors.old) (length io_apics.old) (length interrupt_source_overrides.old)
         (length nmi_sources.old) (length local_apic_nmi_lines.old) }
     ensures { Lists table.now processors.old processors.new io_apics.old

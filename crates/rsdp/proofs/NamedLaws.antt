@@ -1,12 +1,6 @@
 -- Laws about the bytes that count: an answer is the same in two images that agree on the bytes it names.
-use Prim.Native.Nat.{ℕ, ◌+◌, ◌≤◌}
-use mathlib.Core.Path.{◌≡◌, ap, ap₂, sym, ◌∙◌}
-use mathlib.Core.List.{List, [], ◌∷◌, ◌++◌, map}
-use mathlib.Core.Bool.{not}
-use native.Mathlib.Omega.{arith}
+use Rattle.std.proofs.Common.{ℕ, ◌+◌, ◌≤◌, ◌≡◌, ap, ap₂, sym, ◌∙◌, List, [], ◌∷◌, ◌++◌, map, not, arith, length, take, set, length-set, take-take}
 use native.Mathlib.Decide.{ℕ_discrete, dec_le}
-use lib.ListN.{length, take, set, length-set}
-use lib.Seq.{take-take}
 use Rattle.field.specs.First.{less, differ, when}
 use Rattle.field.specs.Number.{number}
 use Rattle.field.specs.Part.{part}

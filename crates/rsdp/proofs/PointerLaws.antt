@@ -1,11 +1,6 @@
 -- Laws about the root pointer: what each finding of the reader makes of the answer, and on which bytes it depends.
-use Prim.Native.Nat.{ℕ, zero, suc, ◌%◌, ◌≤◌, ◌<◌}
-use mathlib.Core.Path.{◌≡◌, refl, ap, sym, ◌∙◌}
-use mathlib.Core.List.{List, [], ◌∷◌}
-use mathlib.Core.Bool.{Bool, true, false, not, ◌||◌}
-use native.Mathlib.Omega.{arith}
+use Rattle.std.proofs.Common.{ℕ, zero, suc, ◌%◌, ◌≤◌, ◌<◌, ◌≡◌, refl, ap, sym, ◌∙◌, List, [], ◌∷◌, Bool, true, false, not, ◌||◌, arith, length, take}
 use native.Mathlib.Decide.{ℕ_discrete}
-use lib.ListN.{length, take}
 use Rattle.field.specs.First.{less, differ, when, ◌gives◌, first_number}
 use Rattle.field.specs.Number.{number}
 use Rattle.field.specs.Part.{part}

@@ -1,11 +1,5 @@
 -- Laws about the search: the walk over an area, and the two areas in a row.
-use Prim.Native.Nat.{ℕ, zero, suc, ◌+◌, ◌-◌, ◌*◌, ◌≤◌, ◌<◌}
-use mathlib.Core.Path.{◌≡◌, refl, ap, ap₂, sym, ◌∙◌}
-use mathlib.Core.List.{List, ◌∷◌, ◌++◌}
-use mathlib.Core.Bool.{true}
-use lib.ListN.{length, drop}
-use native.Mathlib.Numerals.{sub-one}
-use native.Mathlib.Omega.{arith}
+use Rattle.std.proofs.Common.{ℕ, zero, suc, ◌+◌, ◌-◌, ◌*◌, ◌≤◌, ◌<◌, ◌≡◌, refl, ap, ap₂, sym, ◌∙◌, List, ◌∷◌, ◌++◌, true, length, drop, sub-one, arith}
 use Rattle.field.specs.First.{differ, when}
 use Rattle.field.specs.Choice.{Choice, nth_valid}
 use Rattle.field.specs.Choice.Choice.{nothing, chosen}

@@ -1,10 +1,7 @@
 -- Laws about valid root pointers: what a valid one is, and which one a search finds.
-use Prim.Native.Nat.{◌%◌}
-use mathlib.Core.Path.{◌≡◌, refl, sym}
-use mathlib.Core.Bool.{Bool, true, false, ◌||◌, false≢true}
-use native.Mathlib.Omega.{arith}
+use Rattle.std.proofs.Common.{◌%◌, ◌≡◌, refl, sym, Bool, true, false, ◌||◌, arith, length, take}
+use mathlib.Core.Bool.{false≢true}
 use borrow.Author.Tests.{not-false}
-use lib.ListN.{length, take}
 use Rattle.field.specs.First.{less}
 use Rattle.field.specs.Number.{number}
 use Rattle.field.specs.Sum.{sum}

@@ -198,8 +198,8 @@ fn places_in(bytes: usize, most: u64) -> u64
 
 // The first valid root pointer at so many places of a view that begins at an address.
 fn search_view(view: &[u8], start: u64, places: u64) -> Search
-    requires places_in_bounds { 16 * places ≤ length view.now - 4 }
-    requires places_bound { start + 16 * places ≤ 2 ^ 32 }
+    requires in_view { 16 * places ≤ length view.now - 4 }
+    requires below_4_gib { start + 16 * places ≤ 2 ^ 32 }
     ensures { result ≡ found (nth_valid (refusal_in view.now start) 0 (every_sixteen places start)) }
 {
     let mut k = 0;
@@ -216,8 +216,8 @@ fn search_view(view: &[u8], start: u64, places: u64) -> Search
 // The first valid root pointer of an area. A range is looked up once for all of its places at which 20 bytes can be read;
 // where fewer can, no root pointer stands.
 fn search_area(image: &[u8], ranges: &[u64], area: Area) -> Search
-    requires ranges_value { right (length image.now) ranges.now ≡ true }
-    requires places_bound { area.start + 16 * area.places ≤ 2 ^ 32 }
+    requires right_ranges { right (length image.now) ranges.now ≡ true }
+    requires below_4_gib { area.start + 16 * area.places ≤ 2 ^ 32 }
     ensures { result ≡ found (nth_valid (refusal_at image.now ranges.now) 0 (every_sixteen area.places area.start)) }
 {
     let mut p = area.start;

@@ -1,11 +1,5 @@
 -- Laws about refusals of a table: what each finding of the reader makes of the answer, and what a valid table is.
-use Prim.Native.Nat.{ℕ, ◌+◌, ◌%◌, ◌≤◌, ◌<◌, max}
-use mathlib.Core.Path.{◌≡◌, refl, ap, ap₂, sym, ◌∙◌}
-use mathlib.Core.List.{List, [], ◌∷◌}
-use mathlib.Core.Bool.{Bool, true, false, not, ◌&&◌}
-use native.Mathlib.Omega.{arith}
-use lib.Dec.{T}
-use lib.ListN.{length, take}
+use Rattle.std.proofs.Common.{ℕ, ◌+◌, ◌%◌, ◌≤◌, ◌<◌, max, ◌≡◌, refl, ap, ap₂, sym, ◌∙◌, List, [], ◌∷◌, Bool, true, false, not, ◌&&◌, arith, T, length, take}
 use Rattle.field.specs.First.{less, differ, when, Reason, ◌gives◌, first_number}
 use Rattle.field.specs.Number.{number}
 use Rattle.field.specs.Part.{part}

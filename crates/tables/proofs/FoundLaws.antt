@@ -1,10 +1,5 @@
 -- Laws about what is found: every table that is answered is good, and it is the n-th valid one of those listed.
-use Prim.Native.Nat.{ℕ, zero, suc, ◌%◌, ◌≤◌}
-use mathlib.Core.Path.{◌≡◌, refl, ap, sym, ◌∙◌, subst}
-use mathlib.Core.List.{List}
-use mathlib.Core.Bool.{Bool, true, false, not}
-use native.Mathlib.Omega.{arith}
-use lib.ListN.{length, take}
+use Rattle.std.proofs.Common.{ℕ, zero, suc, ◌%◌, ◌≤◌, ◌≡◌, refl, ap, sym, ◌∙◌, subst, List, Bool, true, false, not, arith, length, take}
 use Rattle.field.specs.First.{differ, when}
 use Rattle.field.specs.Number.{number}
 use Rattle.field.specs.Part.{part}

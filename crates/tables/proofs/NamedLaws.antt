@@ -1,10 +1,5 @@
 -- Laws about the bytes that count: an answer is the same in two images that agree on the bytes it names.
-use Prim.Native.Nat.{ℕ, zero, suc}
-use mathlib.Core.Path.{◌≡◌, refl, ap, ap₂, sym, ◌∙◌, subst}
-use mathlib.Core.List.{List, [], ◌∷◌, flat_map}
-use mathlib.Core.Bool.{not}
-use native.Mathlib.Omega.{arith}
-use lib.ListN.{length, take, set, length-set}
+use Rattle.std.proofs.Common.{ℕ, zero, suc, ◌≡◌, refl, ap, ap₂, sym, ◌∙◌, subst, List, [], ◌∷◌, flat_map, not, arith, length, take, set, length-set}
 use Rattle.field.specs.First.{when}
 use Rattle.field.specs.Choice.{Choice, nth_valid, looked_at, All}
 use Rattle.field.specs.Choice.Choice.{nothing, chosen}
@@ -58,7 +53,6 @@ first (with h a) = h
 
 -- What all pieces of some addresses have, those of each address have.
 pub all_of_each : {A B : Type 0} {P : B → Type 0} (f : A → List B) (ps : List A) → All P (flat_map f ps) → All (λ p. All P (f p)) ps
-unfolding flat_map
 all_of_each f [] a = none
 all_of_each f (p ∷ ps) a = with (all_left (f p) (flat_map f ps) a) (all_of_each f ps (all_right (f p) (flat_map f ps) a))
 

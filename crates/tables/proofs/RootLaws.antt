@@ -1,10 +1,5 @@
 -- Laws about the root table: its answer, and the walk over its entries.
-use Prim.Native.Nat.{ℕ, zero, suc, ◌-◌, ◌/◌, ◌<◌}
-use mathlib.Core.Path.{◌≡◌, refl, ap, sym, ◌∙◌}
-use mathlib.Core.List.{List}
-use mathlib.Core.Bool.{Bool, true, false, not}
-use native.Mathlib.Omega.{arith}
-use lib.ListN.{length}
+use Rattle.std.proofs.Common.{ℕ, zero, suc, ◌-◌, ◌/◌, ◌<◌, ◌≡◌, refl, ap, sym, ◌∙◌, List, Bool, true, false, not, arith, length}
 use Rattle.field.specs.First.{when}
 use Rattle.field.proofs.FirstLaws.{differ_yes, differ_no, when_hit, when_pass}
 use Rattle.memory.specs.Ranges.{ranges_of, right}

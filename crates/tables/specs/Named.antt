@@ -1,6 +1,5 @@
 -- The bytes that count: the pieces of memory that an answer depends on (docs/PROMISES.md, demand 3).
-use Rattle.std.specs.Prelude.{ℕ, ◌≡◌, length, set}
-use mathlib.Core.List.{List, [], ◌∷◌, ◌++◌, flat_map}
+use Rattle.std.specs.Prelude.{ℕ, ◌≡◌, List, [], ◌∷◌, ◌++◌, length, set, flat_map}
 use Rattle.field.specs.First.{when}
 use Rattle.field.specs.Choice.{looked_at, All}
 use Rattle.memory.specs.Places.{view_of}

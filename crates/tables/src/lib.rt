@@ -153,8 +153,8 @@ pub fn root_table(image: &[u8], ranges: &[u64], rsdp: u64) -> Root
 
 // All bytes of the table at an address whose header is mapped, or as many of them as are.
 pub fn whole<'a>(image: &'a [u8], ranges: &[u64], address: u64) -> &'a [u8]
-    requires ranges_value { right (length image.now) ranges.now ≡ true }
-    requires header_size_in_bounds { header_size ≤ length (view_of image.now ranges.now address) }
+    requires right_ranges { right (length image.now) ranges.now ≡ true }
+    requires mapped_header { header_size ≤ length (view_of image.now ranges.now address) }
     ensures { result.now ≡ whole_of (view_of image.now ranges.now address) }
 {
     let view = memory::view(image, ranges, address);
@@ -189,7 +189,7 @@ fn entry_offset(kind: RootKind, k: u64) -> usize
 
 // The k-th entry of a root table.
 fn listed_entry(image: &[u8], ranges: &[u64], root: RootTable, k: u64) -> Entry
-    requires ranges_value { right (length image.now) ranges.now ≡ true }
+    requires right_ranges { right (length image.now) ranges.now ≡ true }
     requires good_root { GoodRoot image.now ranges.now root }
     ensures { result ≡ kth k (listed image.now ranges.now root) }
 {
@@ -214,8 +214,8 @@ pub fn root_entry(image: &[u8], ranges: &[u64], rsdp: u64, k: u64) -> Entry
 
 // What is said of the table at an address whose header is mapped.
 fn table_in(image: &[u8], ranges: &[u64], p: u64) -> Table
-    requires ranges_value { right (length image.now) ranges.now ≡ true }
-    requires header_size_in_bounds { header_size ≤ length (view_of image.now ranges.now p) }
+    requires right_ranges { right (length image.now) ranges.now ≡ true }
+    requires mapped_header { header_size ≤ length (view_of image.now ranges.now p) }
     ensures { result ≡ table_in image.now ranges.now p }
 {
     let len = sdt::stated_length(memory::view(image, ranges, p)) as usize;
@@ -288,7 +288,7 @@ fn listed_table(
     least: u32,
     n: u64,
 ) -> Found
-    requires ranges_value { right (length image.now) ranges.now ≡ true }
+    requires right_ranges { right (length image.now) ranges.now ≡ true }
     requires good_root { GoodRoot image.now ranges.now root }
     ensures { result ≡ found image.now ranges.now (nth_valid (refusal_at image.now ranges.now wanted least) n (listed image.now ranges.now root)) }
 {

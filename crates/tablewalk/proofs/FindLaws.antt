@@ -1,10 +1,5 @@
 -- Laws about a table that was found: its header is mapped, so its bytes can be handed to its reader.
-use Prim.Native.Nat.{ℕ, ◌≤◌}
-use mathlib.Core.Path.{◌≡◌, refl, ap, sym, ◌∙◌, subst}
-use mathlib.Core.List.{List}
-use mathlib.Core.Bool.{true}
-use native.Mathlib.Omega.{arith}
-use lib.ListN.{length}
+use Rattle.std.proofs.Common.{ℕ, ◌≤◌, ◌≡◌, refl, ap, sym, ◌∙◌, subst, List, true, arith, length}
 use Rattle.field.specs.Choice.{Choice, nth_valid, Nth}
 use Rattle.field.specs.Choice.Choice.{nothing, chosen}
 use Rattle.field.proofs.ChoiceLaws.{chosen_is_nth}

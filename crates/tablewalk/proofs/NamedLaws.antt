@@ -1,9 +1,5 @@
 -- Only the named bytes count in the questions about tables that are found first.
-use Prim.Native.Nat.{ℕ}
-use mathlib.Core.Path.{◌≡◌, refl, ap, sym, ◌∙◌, subst}
-use mathlib.Core.List.{List, ◌++◌}
-use native.Mathlib.Omega.{arith}
-use lib.ListN.{length}
+use Rattle.std.proofs.Common.{ℕ, ◌≡◌, refl, ap, sym, ◌∙◌, subst, List, ◌++◌, arith, length}
 use Rattle.field.specs.Choice.{Choice, nth_valid, looked_at, All}
 use Rattle.field.specs.Choice.Choice.{nothing, chosen}
 use Rattle.field.specs.Choice.All.{none, with}

@@ -1,0 +1,16 @@
+-- `reset_value` meets its contract: where the table does not lack the field, the number there is read.
+use Rattle.field.specs.First.{when}
+use Rattle.fadt.specs.Values.{number_at}
+use Rattle.fadt.proofs.RoomLaws.{has}
+use Rattle.fadt.proofs.reset_value.Goals as goal
+
+pub returns-then-lacks : goal.returns-then-lacks
+unfolding number_at when
+returns-then-lacks c = rw (← c.lacks.ensures, c.if-lacks.true)
+
+pub u8_at-requires : goal.u8_at-requires
+u8_at-requires c = (has _ _ _ c.lacks.ensures c.if-lacks.false).room
+
+pub returns : goal.returns
+unfolding number_at when
+returns c = rw (← c.lacks.ensures, c.if-lacks.false, c.u8_at.ensures)
