@@ -35,15 +35,15 @@ in_order number_of d (name ∷ names) i (suc k) e h =
     in_order number_of d names (suc i) k e₀ (le_of_suc-le-suc h) ∙ suc-add i k ∙ sym (add-suc i k)
 
 -- What a choice gives it gives by its first case or by the rest.
-when-cases :
+when_cases :
     {A C : Type 0} (t : Bool) (x rest : A) {y : A} →
     when t x rest ≡ y →
     (t ≡ true → x ≡ y → C) →
     (t ≡ false → rest ≡ y → C) →
     C
 unfolding when
-when-cases true x rest e first others = first refl e
-when-cases false x rest e first others = others refl e
+when_cases true x rest e first others = first refl e
+when_cases false x rest e first others = others refl e
 
 -- An unknown name is no known one: what `cc` derives from their being equal proves anything.
 never : {C : Type 0} → ◌≡◌ {A = ℕ} 0 1 → C
@@ -54,14 +54,14 @@ never e = absurd (omega arith)
 pub space_has_its_number : SpaceHasItsNumber
 unfolding space_of
 space_has_its_number n space e =
-    when-cases _ _ _ e (λ t h. cc (in_order space_number SystemMemory spaces 0 n refl (less_true _ _ t), zero-add n))
-    (λ _ e₁. when-cases _ _ _ e₁ (λ _ h. never (cc))
-    (λ t₁ e₂. when-cases _ _ _ e₂ (λ t₂ h. let n-is : 0x7f ≡ n = omega (arith, less_false _ _ t₁, less_true _ _ t₂) in cc)
-    (λ _ e₃. when-cases _ _ _ e₃ (λ _ h. never (cc)) (λ _ h. cc))))
+    when_cases _ _ _ e (λ t h. cc (in_order space_number SystemMemory spaces 0 n refl (less_true _ _ t), zero-add n))
+    (λ _ e₁. when_cases _ _ _ e₁ (λ _ h. never (cc))
+    (λ t₁ e₂. when_cases _ _ _ e₂ (λ t₂ h. let n-is : 0x7f ≡ n = omega (arith, less_false _ _ t₁, less_true _ _ t₂) in cc)
+    (λ _ e₃. when_cases _ _ _ e₃ (λ _ h. never (cc)) (λ _ h. cc))))
 
 -- The list is in the order of its numbers.
 pub size_has_its_number : SizeHasItsNumber
 unfolding size_of
 size_has_its_number n size e =
-    when-cases _ _ _ e (λ t h. cc (in_order size_number Undefined sizes 0 n refl (less_true _ _ t), zero-add n))
+    when_cases _ _ _ e (λ t h. cc (in_order size_number Undefined sizes 0 n refl (less_true _ _ t), zero-add n))
     (λ _ h. never (cc))

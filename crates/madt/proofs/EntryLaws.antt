@@ -86,11 +86,11 @@ walk_fault : (n : ℕ) (s : List ℕ) (at : ℕ) → next_at s at ≡ NoEntry �
 unfolding walk
 walk_fault n s at h = rw (h, walk)
 
-walk-entry :
+walk_entry :
     (n : ℕ) (s : List ℕ) (at : ℕ) (e : MadtEntry) → next_at s at ≡ Entry e →
     walk (suc n) s at ≡ Of e ∷ walk n s (at + e.len)
 unfolding walk
-walk-entry n s at e h = rw (h, walk)
+walk_entry n s at e h = rw (h, walk)
 
 -- Nothing stands past the table's end.
 pub past_end : (s : List ℕ) (at : ℕ) → length s ≤ at → next_at s at ≡ End
@@ -111,9 +111,9 @@ enough_steps (suc n) (suc m) s at hn hm = go (enough_steps n m s) (next_at s at)
     go again NoEntry h = walk_fault n s at h ∙ sym (walk_fault m s at h)
     go again (Entry e) h =
         let st = stands s at e h in
-        walk-entry n s at e h
+        walk_entry n s at e h
         ∙ (ap (λ items. Of e ∷ items) (again (at + e.len) (omega arith) (omega arith))
-        ∙ sym (walk-entry m s at e h))
+        ∙ sym (walk_entry m s at e h))
 
 -- The entries from a place on, by what stands there.
 pub from_end : (s : List ℕ) (at : ℕ) → next_at s at ≡ End → entries_from s at ≡ []
@@ -125,17 +125,17 @@ unfolding entries_from
 from_fault s at h =
     enough_steps (length s) (suc (length s)) s at (omega arith) (omega arith) ∙ walk_fault (length s) s at h
 
-pub from-entry :
+pub from_entry :
     (s : List ℕ) (at : ℕ) (e : MadtEntry) → next_at s at ≡ Entry e → entries_from s at ≡ Of e ∷ entries_from s (at + e.len)
 unfolding entries_from
-from-entry s at e h =
-    enough_steps (length s) (suc (length s)) s at (omega arith) (omega arith) ∙ walk-entry (length s) s at e h
+from_entry s at e h =
+    enough_steps (length s) (suc (length s)) s at (omega arith) (omega arith) ∙ walk_entry (length s) s at e h
 
 -- Where no fault is to come and the table goes on, an entry stands.
-pub sound-entry :
+pub sound_entry :
     (s : List ℕ) (at : ℕ) → faulty (entries_from s at) ≡ false → at < length s → next_at s at ≡ Entry (entry_at s at)
 unfolding faulty
-sound-entry s at sound more = go (next_at s at) refl
+sound_entry s at sound more = go (next_at s at) refl
   where
     go : (x : Next) → next_at s at ≡ x → next_at s at ≡ Entry (entry_at s at)
     go End h = absurd (omega (arith, ended s at h))
@@ -143,11 +143,11 @@ sound-entry s at sound more = go (next_at s at) refl
     go (Entry e) h = h ∙ ap Entry (stands s at e h).is
 
 -- A fault that is to come from an entry on is to come behind it.
-pub faulty-entry :
+pub faulty_entry :
     (s : List ℕ) (at : ℕ) (e : MadtEntry) → next_at s at ≡ Entry e →
     faulty (entries_from s at) ≡ faulty (entries_from s (at + e.len))
 unfolding faulty
-faulty-entry s at e h = rw (from-entry s at e h)
+faulty_entry s at e h = rw (from_entry s at e h)
 
 pub faulty_end : (s : List ℕ) (at : ℕ) → next_at s at ≡ End → faulty (entries_from s at) ≡ false
 unfolding faulty
@@ -165,7 +165,7 @@ walk_short (suc n) s at = go (walk_short n s) (next_at s at) refl
     go : ((at' : ℕ) → length (walk n s at') ≤ n) → (x : Next) → next_at s at ≡ x → length (walk (suc n) s at) ≤ suc n
     go again End h = rw (walk_end n s at h) (omega arith)
     go again NoEntry h = rw (walk_fault n s at h) (omega arith)
-    go again (Entry e) h = rw (walk-entry n s at e h) (omega (arith, again (at + e.len)))
+    go again (Entry e) h = rw (walk_entry n s at e h) (omega (arith, again (at + e.len)))
 
 pub entries_short : (s : List ℕ) → length (entries s) ≤ length s
 unfolding entries entries_from
@@ -185,7 +185,7 @@ joined_walk (suc n) s at h = go (joined_walk n s) (next_at s at) refl
     go again (Entry e) eq =
         let st = stands s at e eq in
         let next : length s ≤ at + e.len + n = omega arith in
-        rw (walk-entry n s at e eq, st.place, again (at + e.len) next, ← drop-drop e.len at s)
+        rw (walk_entry n s at e eq, st.place, again (at + e.len) next, ← drop-drop e.len at s)
         (take-append-drop e.len (drop at s))
 
 pub entries_are_the_table : EntriesAreTheTable
@@ -196,14 +196,14 @@ entries_are_the_table s = joined_walk (length s) s 44 (omega arith)
 pub nth_here :
     (s : List ℕ) (at k : ℕ) (e : MadtEntry) → next_at s at ≡ Entry e → k ≡ 0 → nth (entries_from s at) k ≡ FoundEntry e
 unfolding nth
-nth_here s at k e h z = rw (from-entry s at e h, z)
+nth_here s at k e h z = rw (from_entry s at e h, z)
 
-pub nth-next :
+pub nth_next :
     (s : List ℕ) (at k : ℕ) (e : MadtEntry) → next_at s at ≡ Entry e → (k ≡ 0 → ⊥) →
     nth (entries_from s at) k ≡ nth (entries_from s (at + e.len)) (k - 1)
 unfolding nth
-nth-next s at zero e h z = absurd (z refl)
-nth-next s at (suc k) e h z = rw (from-entry s at e h, sub-one) refl
+nth_next s at zero e h z = absurd (z refl)
+nth_next s at (suc k) e h z = rw (from_entry s at e h, sub-one) refl
 
 pub nth_fault : (s : List ℕ) (at k : ℕ) → next_at s at ≡ NoEntry → k ≡ 0 → nth (entries_from s at) k ≡ Refused 15
 unfolding nth

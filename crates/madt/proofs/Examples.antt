@@ -26,7 +26,7 @@ sample =
     ∷ 0x01 ∷ 0x0c ∷ 0x02 ∷ 0x00 ∷ 0x00 ∷ 0x00 ∷ 0xc0 ∷ 0xfe ∷ 0x00 ∷ 0x00 ∷ 0x00 ∷ 0x00 ∷ 0x02 ∷ 0x0a ∷ 0x00 ∷ 0x00
     ∷ 0x02 ∷ 0x00 ∷ 0x00 ∷ 0x00 ∷ 0x00 ∷ 0x00 ∷ 0x04 ∷ 0x06 ∷ 0xff ∷ 0x05 ∷ 0x00 ∷ 0x01 ∷ []
 
-sample-entries :
+sample_entries :
     entries (fixed 88 ++ sample)
     ≡ Of (record { kind = LocalApic; number = 0; at = 44; len = 8 })
     ∷ Of (record { kind = LocalApic; number = 0; at = 52; len = 8 })
@@ -35,14 +35,14 @@ sample-entries :
     ∷ Of (record { kind = LocalApicNmi; number = 4; at = 82; len = 6 })
     ∷ []
 unfolding entries entries_from walk next_at number when less kind_of kinds fixed sample
-sample-entries = refl
+sample_entries = refl
 
 -- A reserved kind is passed over by its length; a length of 0, a length past the end, a kind of another interrupt model and a
 -- single byte are faults.
-reserved-then-zero :
+reserved_then_zero :
     entries (fixed 49 ++ 0x80 ∷ 3 ∷ 9 ∷ 0x80 ∷ 0 ∷ []) ≡ Of (record { kind = Reserved; number = 0x80; at = 44; len = 3 }) ∷ Fault 47 ∷ []
 unfolding entries entries_from walk next_at number when less kind_of kinds fixed
-reserved-then-zero = refl
+reserved_then_zero = refl
 
 past_the_end : entries (fixed 52 ++ 0 ∷ 9 ∷ 0 ∷ 0 ∷ 1 ∷ 0 ∷ 0 ∷ 0 ∷ []) ≡ Fault 44 ∷ []
 unfolding entries entries_from walk next_at number when less kind_of kinds fixed

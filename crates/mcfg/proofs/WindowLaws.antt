@@ -12,30 +12,30 @@ use Rattle.mcfg.specs.declared.Window.TheVariants.{Through, Nowhere}
 use Rattle.mcfg.specs.declared.PhysicalAddress.TheVariants.{Address, Refused}
 
 -- What a choice gives it gives by its first case or by the rest.
-when-cases :
+when_cases :
     {A C : Type 0} (t : Bool) (x rest : A) {y : A} →
     when t x rest ≡ y →
     (t ≡ true → x ≡ y → C) →
     (t ≡ false → rest ≡ y → C) →
     C
 unfolding when
-when-cases true x rest e first others = first refl e
-when-cases false x rest e first others = others refl e
+when_cases true x rest e first others = first refl e
+when_cases false x rest e first others = others refl e
 
 -- Two answers that differ are not the same: what `cc` derives from it proves anything.
 never : {C : Type 0} → ◌≡◌ {A = ℕ} 0 1 → C
 never e = absurd (omega arith)
 
 -- The walk: the entry at hand includes the bus, or it does not and the rest decides, or no entry is left.
-pub window-here :
+pub window_here :
     (table : List ℕ) (segment bus at : ℕ) → 16 ≤ length table - at → includes segment bus (entry_at table at) ≡ true → window_of segment bus (entries_from table at) ≡ Through (entry_at table at)
 unfolding window_of
-window-here table segment bus at h t = rw (from_step table at h) (when_hit _ _ _ t)
+window_here table segment bus at h t = rw (from_step table at h) (when_hit _ _ _ t)
 
-pub window-next :
+pub window_next :
     (table : List ℕ) (segment bus at : ℕ) → 16 ≤ length table - at → includes segment bus (entry_at table at) ≡ false → window_of segment bus (entries_from table at) ≡ window_of segment bus (entries_from table (at + 16))
 unfolding window_of
-window-next table segment bus at h t = rw (from_step table at h) (when_pass _ _ _ t)
+window_next table segment bus at h t = rw (from_step table at h) (when_pass _ _ _ t)
 
 pub window_end : (table : List ℕ) (segment bus at : ℕ) → length table - at < 16 → window_of segment bus (entries_from table at) ≡ Nowhere
 unfolding window_of
@@ -46,7 +46,7 @@ pub window_first : (segment bus : ℕ) (es : List McfgEntry) (e : McfgEntry) →
 unfolding window_of
 window_first segment bus [] e q = never (cc)
 window_first segment bus (x ∷ es) e q =
-    when-cases _ _ _ q (λ t h. let same : x ≡ e = cc in subst (λ (y : McfgEntry). First segment bus y (x ∷ es)) same (here t))
+    when_cases _ _ _ q (λ t h. let same : x ≡ e = cc in subst (λ (y : McfgEntry). First segment bus y (x ∷ es)) same (here t))
     (λ t h. later t (window_first segment bus es e h))
 
 pub first_includes : {segment bus : ℕ} {e : McfgEntry} {es : List McfgEntry} → First segment bus e es → includes segment bus e ≡ true
@@ -93,7 +93,7 @@ in_window :
 unfolding through_window address_in
 in_window table segment bus device function address Nowhere e d f q = never (cc)
 in_window table segment bus device function address (Through entry) e d f q =
-    when-cases _ _ _ q (λ _ h.
+    when_cases _ _ _ q (λ _ h.
     let first = window_first segment bus (entries table) entry e in
     let is : function_in entry bus device function ≡ address = cc in
     let between = bus_between segment bus entry (first_includes first) in
@@ -104,7 +104,7 @@ in_window table segment bus device function address (Through entry) e d f q =
 pub address_is_in_window : AddressIsInWindow
 unfolding physical_address_of
 address_is_in_window table segment bus device function address q =
-    when-cases _ _ _ q (λ _ h. never (cc))
-    (λ _ q₁. when-cases _ _ _ q₁ (λ _ h. never (cc))
-    (λ d q₂. when-cases _ _ _ q₂ (λ _ h. never (cc))
+    when_cases _ _ _ q (λ _ h. never (cc))
+    (λ _ q₁. when_cases _ _ _ q₁ (λ _ h. never (cc))
+    (λ d q₂. when_cases _ _ _ q₂ (λ _ h. never (cc))
     (λ f q₃. in_window table segment bus device function address _ refl (less_false _ _ d) (less_false _ _ f) q₃)))

@@ -13,7 +13,7 @@ use Rattle.platform.specs.Wrong.{wrong_flags, wrong_bus, wrong_line}
 use Rattle.platform.specs.Model.{some, last_address, model_with, refusals, answered, model_of}
 
 -- The sample of docs/TABLES.md, section 12.
-sample-model :
+sample_model :
     model_of (fixed 88 ++ sample)
     ≡ Is
     (record {
@@ -27,7 +27,7 @@ sample-model :
       local_apic_nmi_lines = 1;
     })
 unfolding model_of answered refusals not_madt model_with madt_of first_number differ when less number entries entries_from walk next_at kind_of kinds faulty some those last_address wrong_flags wrong_bus wrong_line fixed sample
-sample-model = refl
+sample_model = refl
 
 sample_processors : list processors (fixed 88 ++ sample) ≡ 0 ∷ 0 ∷ 2 ∷ 1 ∷ 2 ∷ 1 ∷ []
 unfolding list words_of those state_of differ when number entries entries_from walk next_at less kind_of kinds fixed sample
@@ -57,7 +57,7 @@ no_processor : model_of (fixed 54 ++ 2 ∷ 10 ∷ 1 ∷ 0 ∷ 2 ∷ 0 ∷ 0 ∷ 
 unfolding model_of answered refusals not_madt model_with madt_of first_number differ when less number entries entries_from walk next_at kind_of kinds faulty some those last_address wrong_flags wrong_bus wrong_line fixed
 no_processor = refl
 
-last-address :
+last_address_lem :
     last_address
     (fixed 68
     ++ 5 ∷ 12 ∷ 0 ∷ 0 ∷ 1 ∷ 0 ∷ 0 ∷ 0 ∷ 0 ∷ 0 ∷ 0 ∷ 0 ∷ 5 ∷ 12 ∷ 0 ∷ 0 ∷ 2 ∷ 0 ∷ 0 ∷ 0 ∷ 0 ∷ 0 ∷ 0 ∷ 0 ∷ [])
@@ -67,10 +67,10 @@ last-address :
     ++ 5 ∷ 12 ∷ 0 ∷ 0 ∷ 1 ∷ 0 ∷ 0 ∷ 0 ∷ 0 ∷ 0 ∷ 0 ∷ 0 ∷ 5 ∷ 12 ∷ 0 ∷ 0 ∷ 2 ∷ 0 ∷ 0 ∷ 0 ∷ 0 ∷ 0 ∷ 0 ∷ 0 ∷ []))
     ≡ 2
 unfolding last_address number when less entries entries_from walk next_at kind_of kinds fixed
-last-address = refl
+last_address_lem = refl
 
 -- Nothing of the model: it is unknown, and that is no refusal.
-unknown-model :
+unknown_model_lem :
     model_of (fixed 46 ++ 0x80 ∷ 2 ∷ [])
     ≡ Is
     (record {
@@ -84,4 +84,4 @@ unknown-model :
       local_apic_nmi_lines = 0;
     })
 unfolding model_of answered refusals not_madt model_with madt_of first_number differ when less number entries entries_from walk next_at kind_of kinds faulty some those last_address wrong_flags wrong_bus wrong_line fixed
-unknown-model = refl
+unknown_model_lem = refl

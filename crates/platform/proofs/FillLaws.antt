@@ -20,13 +20,13 @@ use Rattle.madt.specs.declared.Kind.TheVariants.{
   Foreign,
   Reserved,
 }
-use Rattle.madt.proofs.EntryLaws.{stands, faulty-entry}
+use Rattle.madt.proofs.EntryLaws.{stands, faulty_entry}
 use Rattle.platform.specs.declared.Words.{Words}
 use Rattle.platform.specs.Lists.{list_of, those}
 use Rattle.platform.specs.Records.{record_of, spelled, words_of, waiting, running, list}
 use Rattle.platform.specs.Fill.{over}
 use Rattle.platform.specs.Inner.{enabled_at, goes_to, chosen}
-use Rattle.platform.proofs.ListLaws.{those-entry, chosen_other, chosen_same}
+use Rattle.platform.proofs.ListLaws.{those_entry, chosen_other, chosen_same}
 
 -- How many words a record of each list has.
 abbrev pub width : ℕ → ℕ
@@ -79,11 +79,11 @@ unfolding enabled_at
 later_waits to h = when_hit _ _ _ (differ_yes _ _ (omega arith))
 
 -- Where a list's next place is the processors' next place if it is their list, both give one record.
-same-record :
+same_record :
     (s : List ℕ) (p to at : ℕ) (k : Kind) (l : ℕ) → (l ≡ 0 → p ≡ to) → list_of k ≡ l →
     record_of s (enabled_at to) at k ≡ record_of s (enabled_at p) at k
-same-record s p to at k zero f q = ap (λ n. record_of s (enabled_at n) at k) (sym (f refl))
-same-record s p to at k (suc l) f q = no_state s (enabled_at to) (enabled_at p) at k (omega arith)
+same_record s p to at k zero f q = ap (λ n. record_of s (enabled_at n) at k) (sym (f refl))
+same_record s p to at k (suc l) f q = no_state s (enabled_at to) (enabled_at p) at k (omega arith)
 
 -- What a list's table holds, with what is to be written yet, is what it holds at the end.
 pub record Filling (l : ℕ) (s before now : List ℕ) (to at : ℕ) : Type 0 where
@@ -142,11 +142,11 @@ module _
     list_here : goes_to words ≡ list_of e.kind
     list_here = ap goes_to t.recorded ∙ record_list s (enabled_at p) at e.kind
 
-    words-entry :
+    words_entry :
         words_of s (enabled_at to) (those l (entries_from s at))
         ≡ chosen l words ++ words_of s (enabled_at (to + length (chosen l words))) (those l (entries_from s (at + e.len)))
     unfolding words_of
-    words-entry = go (differ (list_of e.kind) l) refl
+    words_entry = go (differ (list_of e.kind) l) refl
       where
         go :
             (b : Bool) → differ (list_of e.kind) l ≡ b →
@@ -154,7 +154,7 @@ module _
             ≡ chosen l words ++ words_of s (enabled_at (to + length (chosen l words))) (those l (entries_from s (at + e.len)))
         go true d =
             let none = chosen_other l words (λ q. differ_true _ _ d (sym list_here ∙ q)) in
-            rw (none, those-entry s at e t.stands_here l, when_hit _ _ _ d, add-zero) refl
+            rw (none, those_entry s at e t.stands_here l, when_hit _ _ _ d, add-zero) refl
         go false d =
             let mine : list_of e.kind ≡ l = differ_false _ _ d in
             let all : chosen l words ≡ spelled words = chosen_same l words (list_here ∙ mine) in
@@ -163,31 +163,31 @@ module _
             in
             let next : enabled_at (to + length (spelled words)) ≡ waiting = later_waits _ (omega (arith, some_words l small)) in
             let place = (stands s at e t.stands_here).place in
-            let same = same-record s p to at e.kind l f mine in
+            let same = same_record s p to at e.kind l f mine in
             let record-here : record_of s (enabled_at to) e.at e.kind ≡ words = cc t.recorded in
-            rw (all, next, those-entry s at e t.stands_here l, when_pass _ _ _ d, record-here) refl
+            rw (all, next, those_entry s at e t.stands_here l, when_pass _ _ _ d, record-here) refl
 
     -- There is room for what is chosen, and with it written the table is filled up to behind the entry.
     pub fill_room : {before now : List ℕ} → Filling l s before now to at → to + length (chosen l words) ≤ length now
-    fill_room was = omega (arith, was.room, ap length words-entry ∙ length-append (chosen l words) _)
+    fill_room was = omega (arith, was.room, ap length words_entry ∙ length-append (chosen l words) _)
 
-    pub fill-entry :
+    pub fill_entry :
         {before now now' : List ℕ} {to' len : ℕ} → Filling l s before now to at → to' ≡ to + length (chosen l words) →
         now' ≡ sets now to (chosen l words) → len ≡ e.len → Filling l s before now' to' (at + len)
-    fill-entry {now = now} was qt qn qa =
-        let longer = ap length words-entry ∙ length-append (chosen l words) _ in
+    fill_entry {now = now} was qt qn qa =
+        let longer = ap length words_entry ∙ length-append (chosen l words) _ in
         let kept = ap length qn ∙ length-sets now to (chosen l words) in
         record {
           whole =
               rw (qt, qn, qa)
-              (sym (sets_append now to (chosen l words) _) ∙ (ap (sets now to) (sym words-entry) ∙ was.whole));
+              (sym (sets_append now to (chosen l words) _) ∙ (ap (sets now to) (sym words_entry) ∙ was.whole));
           room = rw (qt, qa) (omega (arith, was.room));
           same = kept ∙ was.same;
           fits = was.fits;
         }
 
 -- Behind an entry no fault is to come, where none was.
-pub still-sound :
+pub still_sound :
     {s : List ℕ} {at p : ℕ} {e : MadtEntry} {words : Words} → Turn s at p e words → faulty (entries_from s at) ≡ false →
     {len : ℕ} → len ≡ e.len → faulty (entries_from s (at + len)) ≡ false
-still-sound {s} {at} {e = e} t sound q = rw q (sym (faulty-entry s at e t.stands_here) ∙ sound)
+still_sound {s} {at} {e = e} t sound q = rw q (sym (faulty_entry s at e t.stands_here) ∙ sound)

@@ -31,19 +31,19 @@ abbrev unlisted : List ℕ
 unlisted = 5 ∷ 8 ∷ 9 ∷ 10 ∷ []
 
 -- Entries of the kinds that have no arm of their own are never wrong.
-pub never-wrong :
+pub never_wrong :
     (s : List ℕ) (at : ℕ) (k : Kind) → OneOf unchecked (tag_of the_type k) → false ≡ wrong_at s at k
-never-wrong s at InterruptSourceOverride h = absurd (miss unchecked 2 tt h)
-never-wrong s at NmiSource h = absurd (miss unchecked 3 tt h)
-never-wrong s at LocalApicNmi h = absurd (miss unchecked 4 tt h)
-never-wrong s at X2ApicNmi h = absurd (miss unchecked 7 tt h)
-never-wrong s at LocalApic h = refl
-never-wrong s at LocalX2Apic h = refl
-never-wrong s at IoApic h = refl
-never-wrong s at LocalApicAddressOverride h = refl
-never-wrong s at MultiprocessorWakeup h = refl
-never-wrong s at Foreign h = refl
-never-wrong s at Reserved h = refl
+never_wrong s at InterruptSourceOverride h = absurd (miss unchecked 2 tt h)
+never_wrong s at NmiSource h = absurd (miss unchecked 3 tt h)
+never_wrong s at LocalApicNmi h = absurd (miss unchecked 4 tt h)
+never_wrong s at X2ApicNmi h = absurd (miss unchecked 7 tt h)
+never_wrong s at LocalApic h = refl
+never_wrong s at LocalX2Apic h = refl
+never_wrong s at IoApic h = refl
+never_wrong s at LocalApicAddressOverride h = refl
+never_wrong s at MultiprocessorWakeup h = refl
+never_wrong s at Foreign h = refl
+never_wrong s at Reserved h = refl
 
 -- Nor have those that go to no list a record.
 pub no_record :

@@ -7,7 +7,7 @@ use Rattle.madt.specs.Entries.{Item, next_at, entries_from, entries}
 use Rattle.madt.specs.Entries.Item.{Of, Fault}
 use Rattle.madt.specs.declared.MadtEntry.{MadtEntry}
 use Rattle.madt.specs.declared.Next.TheVariants.{Entry, Fault, End}
-use Rattle.madt.proofs.EntryLaws.{from-entry, from_end, past_end}
+use Rattle.madt.proofs.EntryLaws.{from_entry, from_end, past_end}
 use Rattle.platform.specs.declared.Words.{Words}
 use Rattle.platform.specs.Lists.{no_list, list_of, of_model, those}
 use Rattle.platform.specs.Records.{spelled}
@@ -39,16 +39,16 @@ those_short l (Of e ∷ items) = go (differ (list_of e.kind) l) (those_short l i
 
 -- An entry stands at the front: each function takes it in and goes on behind it.
 module _ (s : List ℕ) (at : ℕ) (e : MadtEntry) (h : next_at s at ≡ Entry e) where
-  pub those-entry :
+  pub those_entry :
       (l : ℕ) →
       those l (entries_from s at)
       ≡ when (differ (list_of e.kind) l) (those l (entries_from s (at + e.len))) (e ∷ those l (entries_from s (at + e.len)))
   unfolding those
-  those-entry l = rw (from-entry s at e h)
+  those_entry l = rw (from_entry s at e h)
 
   pub some_entry : (p : MadtEntry → Bool) → some p (entries_from s at) ≡ (p e || some p (entries_from s (at + e.len)))
   unfolding some
-  some_entry p = rw (from-entry s at e h)
+  some_entry p = rw (from_entry s at e h)
 
   pub some_more :
       (p : MadtEntry → Bool) (before b total : Bool) → b ≡ p e → (before || some p (entries_from s at)) ≡ total →
@@ -56,12 +56,12 @@ module _ (s : List ℕ) (at : ℕ) (e : MadtEntry) (h : next_at s at ≡ Entry e
   some_more p before b total q was =
       or_assoc before b (some p (entries_from s (at + e.len))) ∙ (rw (q, ← some_entry p) was)
 
-  pub address-entry :
+  pub address_entry :
       (address : ℕ) →
       last_address s address (entries_from s at)
       ≡ last_address s (address_after s address e.at e.kind) (entries_from s (at + e.len))
   unfolding last_address
-  address-entry address = rw (from-entry s at e h)
+  address_entry address = rw (from_entry s at e h)
 
 -- Nothing stands at the front.
 module _ (s : List ℕ) (at : ℕ) (h : next_at s at ≡ End) where

@@ -22,7 +22,7 @@ use Rattle.madt.specs.declared.Kind.TheVariants.{
   Foreign,
   Reserved,
 }
-use Rattle.madt.proofs.EntryLaws.{stands, from-entry, from_end, from_fault}
+use Rattle.madt.proofs.EntryLaws.{stands, from_entry, from_end, from_fault}
 use Rattle.platform.specs.declared.Mailbox.TheVariants.{Address, Refused}
 use Rattle.platform.specs.Mailbox.{is_wakeup, first_mailbox, mailbox_of}
 
@@ -41,17 +41,17 @@ wakeup_length Foreign h = absurd (false≢true h)
 wakeup_length Reserved h = absurd (false≢true h)
 
 -- The first mailbox from a place on, by what stands there.
-pub mailbox-here :
+pub mailbox_here :
     (s : List ℕ) (at : ℕ) (e : MadtEntry) → next_at s at ≡ Entry e → is_wakeup e.kind ≡ true →
     first_mailbox s (entries_from s at) ≡ Address (value s at mailbox_address)
 unfolding first_mailbox
-mailbox-here s at e h w = rw (from-entry s at e h) (when_hit _ _ _ w ∙ ap (λ n. Address (value s n mailbox_address)) (stands s at e h).place)
+mailbox_here s at e h w = rw (from_entry s at e h) (when_hit _ _ _ w ∙ ap (λ n. Address (value s n mailbox_address)) (stands s at e h).place)
 
-pub mailbox-next :
+pub mailbox_next :
     (s : List ℕ) (at : ℕ) (e : MadtEntry) → next_at s at ≡ Entry e → is_wakeup e.kind ≡ false →
     first_mailbox s (entries_from s at) ≡ first_mailbox s (entries_from s (at + e.len))
 unfolding first_mailbox
-mailbox-next s at e h w = rw (from-entry s at e h) (when_pass _ _ _ w)
+mailbox_next s at e h w = rw (from_entry s at e h) (when_pass _ _ _ w)
 
 pub mailbox_fault : (s : List ℕ) (at : ℕ) → next_at s at ≡ Fault → first_mailbox s (entries_from s at) ≡ Refused 15
 unfolding first_mailbox

@@ -17,10 +17,10 @@ pub record Told (s : List ℕ) (bad : Bool) (model : Model) : Type 0 where
   pub mistaken : some (wrong s) (entries s) ≡ bad
   pub is : model ≡ model_with s (madt_of s)
 
-pub told-sound :
+pub told_sound :
     (s : List ℕ) (m : Madt) (bad : Bool) (model : Model) → seen_of s m ≡ Whole bad model → faulty (entries s) ≡ false
 unfolding seen_of
-told-sound s m bad model h = go (faulty (entries s)) refl
+told_sound s m bad model h = go (faulty (entries s)) refl
   where
     go : (t : Bool) → faulty (entries s) ≡ t → faulty (entries s) ≡ false
     go true e =
@@ -32,7 +32,7 @@ pub told :
     (s : List ℕ) (m : Madt) (bad : Bool) (model : Model) → m ≡ madt_of s → seen_of s m ≡ Whole bad model → Told s bad model
 unfolding seen_of
 told s m bad model q h =
-    let sound = told-sound s m bad model h in
+    let sound = told_sound s m bad model h in
     let p = when_pass _ Fault (Whole (some (wrong s) (entries s)) (model_with s m)) sound in
     record { faultless = sound; mistaken = cc; is = cc }
 

@@ -40,13 +40,13 @@ use Rattle.platform.proofs.ListLaws.{neither}
 use Rattle.platform.proofs.FillLaws.{width, record_width}
 
 -- A list has as many words as its records have together.
-words-width :
+words_width :
     (s : List ℕ) (l enabled : ℕ) (items : List Item) →
     length (words_of s enabled (those l items)) ≡ width l * length (those l items)
 unfolding words_of those when
-words-width s l enabled [] = sym (mul-zero (width l))
-words-width s l enabled (Fault at ∷ items) = words-width s l enabled items
-words-width s l enabled (Of e ∷ items) = go (differ (list_of e.kind) l) refl (words-width s l enabled items) (words-width s l waiting items)
+words_width s l enabled [] = sym (mul-zero (width l))
+words_width s l enabled (Fault at ∷ items) = words_width s l enabled items
+words_width s l enabled (Of e ∷ items) = go (differ (list_of e.kind) l) refl (words_width s l enabled items) (words_width s l waiting items)
   where
     go :
         (t : Bool) → differ (list_of e.kind) l ≡ t →
@@ -61,7 +61,7 @@ words-width s l enabled (Of e ∷ items) = go (differ (list_of e.kind) l) refl (
 
 pub list_width : (l : ℕ) (s : List ℕ) → length (list l s) ≡ width l * length (those l (entries s))
 unfolding list
-list_width l s = words-width s l running (entries s)
+list_width l s = words_width s l running (entries s)
 
 -- A table of n words has no room for c records of three, or of two, where n / 3, or n / 2, is below c.
 third : (l : ℕ) (s : List ℕ) (n c : ℕ) → width l ≡ 3 → c ≡ length (those l (entries s)) → ltb (n / 3) c ≡ less n (length (list l s))
@@ -85,7 +85,7 @@ half l s n c two count = go (ltb (n / 2) c) refl
     go false e = e ∙ sym (less_no _ _ (omega (arith, all, ltb-false (n / 2) c e)))
 
 -- The test by the counts of the model is the test by the lists.
-pub short-by-counts :
+pub short_by_counts :
     (s : List ℕ) (p i o n l : ℕ) (m : Model) → m ≡ model_with s (madt_of s) →
     (ltb (p / 3) m.processors
     || ltb (i / 3) m.io_apics
@@ -94,7 +94,7 @@ pub short-by-counts :
     || ltb (l / 2) m.local_apic_nmi_lines)
     ≡ too_short s p i o n l
 unfolding too_short model_with
-short-by-counts s p i o n l m q =
+short_by_counts s p i o n l m q =
     cc (
       third processors s p m.processors refl (ap (λ x. x.processors) q),
       third io_apics s i m.io_apics refl (ap (λ x. x.io_apics) q),
@@ -119,14 +119,14 @@ is_accepted s m h = go (differ (first_number (refusals s)) 0) refl
         record { none = differ_false _ _ d; model = cc }
 
 -- Of two lists of reasons, of which the first ascends from 1 or more, the first that refuses does.
-first-append :
+first_append :
     {m : ℕ} {reasons : List Reason} → Ascending m reasons → 1 ≤ m → (more : List Reason) →
     first_number (reasons ++ more) ≡ when (differ (first_number reasons) 0) (first_number reasons) (first_number more)
-first-append no_more h more = rw clear (sym (when_pass _ _ _ (differ_no 0 0 refl)))
-first-append (then {n = n} {test = true} {rest = rest} le others) h more =
+first_append no_more h more = rw clear (sym (when_pass _ _ _ (differ_no 0 0 refl)))
+first_append (then {n = n} {test = true} {rest = rest} le others) h more =
     rw (hit true n (rest ++ more) refl, hit true n rest refl) (sym (when_hit _ _ _ (differ_yes _ _ (omega arith))))
-first-append (then {n = n} {test = false} {rest = rest} le others) h more =
-    rw (pass false n (rest ++ more) refl refl, pass false n rest refl refl) (first-append others (omega arith) more)
+first_append (then {n = n} {test = false} {rest = rest} le others) h more =
+    rw (pass false n (rest ++ more) refl refl, pass false n rest refl refl) (first_append others (omega arith) more)
 
 pub refusals_ascend : RefusalsAscend
 unfolding refusals
@@ -140,11 +140,11 @@ fill_refusals_ascend s p i o n l =
 
 -- The number that refuses to fill, by the number that refuses the model and the room.
 module _ (s : List ℕ) (p i o n l : ℕ) where
-  by-model :
+  by_model :
       fill_number s p i o n l
       ≡ when (differ (first_number (refusals s)) 0) (first_number (refusals s)) (first_number ((too_short s p i o n l gives 17) ∷ []))
   unfolding fill_number fill_refusals
-  by-model = first-append (refusals_ascend s) (omega arith) ((too_short s p i o n l gives 17) ∷ [])
+  by_model = first_append (refusals_ascend s) (omega arith) ((too_short s p i o n l gives 17) ∷ [])
 
   pub fill_refused : (r : ℕ) → model_of s ≡ Refused r → r ≡ fill_number s p i o n l
   unfolding model_of answered
@@ -154,16 +154,16 @@ module _ (s : List ℕ) (p i o n l : ℕ) where
       go true d =
           let e = when_hit _ (Refused (first_number (refusals s))) (Is (model_with s (madt_of s))) d in
           let same : r ≡ first_number (refusals s) = cc in
-          same ∙ sym (by-model ∙ when_hit _ _ _ d)
+          same ∙ sym (by_model ∙ when_hit _ _ _ d)
       go false d =
           let z : ◌≡◌ {A = ℕ} 0 1 = cc (when_pass _ (Refused (first_number (refusals s))) (Is (model_with s (madt_of s))) d) in
           absurd (omega arith)
 
   pub fill_short : first_number (refusals s) ≡ 0 → too_short s p i o n l ≡ true → 17 ≡ fill_number s p i o n l
-  fill_short none e = sym (by-model ∙ (when_pass _ _ _ (differ_no _ _ none) ∙ hit _ _ _ e))
+  fill_short none e = sym (by_model ∙ (when_pass _ _ _ (differ_no _ _ none) ∙ hit _ _ _ e))
 
   pub fill_fits : first_number (refusals s) ≡ 0 → too_short s p i o n l ≡ false → 0 ≡ fill_number s p i o n l
-  fill_fits none e = sym (by-model ∙ (when_pass _ _ _ (differ_no _ _ none) ∙ pass _ _ _ e clear))
+  fill_fits none e = sym (by_model ∙ (when_pass _ _ _ (differ_no _ _ none) ∙ pass _ _ _ e clear))
 
   -- Where nothing refuses to fill, nothing refuses the model and no table is too short.
   record Free : Type 0 where
@@ -174,11 +174,11 @@ module _ (s : List ℕ) (p i o n l : ℕ) where
   free h = go (differ (first_number (refusals s)) 0) refl
     where
       go : (t : Bool) → differ (first_number (refusals s)) 0 ≡ t → Free
-      go true d = absurd (differ_true _ _ d (sym (by-model ∙ when_hit _ _ _ d) ∙ h))
+      go true d = absurd (differ_true _ _ d (sym (by_model ∙ when_hit _ _ _ d) ∙ h))
       go false d =
           record {
             model = differ_false _ _ d;
-            long = (all_clear _ 16 [] (sym (by-model ∙ when_pass _ _ _ d) ∙ h)).fails;
+            long = (all_clear _ 16 [] (sym (by_model ∙ when_pass _ _ _ d) ∙ h)).fails;
           }
 
   -- So the table has no fault and each list has room.

@@ -6,16 +6,16 @@ use Rattle.field.proofs.FirstLaws.{differ_true, differ_false, differ_no, when_hi
 use Rattle.madt.specs.Entries.{next_at, entries_from, entries, faulty}
 use Rattle.madt.specs.declared.MadtEntry.{MadtEntry}
 use Rattle.madt.specs.declared.Next.TheVariants.{Entry, Fault as NoEntry, End}
-use Rattle.madt.proofs.EntryLaws.{stands, entries_short, faulty-entry, faulty_end, faulty_fault}
+use Rattle.madt.proofs.EntryLaws.{stands, entries_short, faulty_entry, faulty_end, faulty_fault}
 use Rattle.platform.specs.Lists.{list_of, those, of_model}
 use Rattle.platform.specs.Wrong.{wrong_at}
 use Rattle.platform.specs.Model.{some, address_after, last_address, belongs, wrong}
 use Rattle.platform.proofs.KindLaws.{list_small}
 use Rattle.platform.proofs.ListLaws.{
   those_short,
-  those-entry,
+  those_entry,
   some_more,
-  address-entry,
+  address_entry,
   those_end,
   some_end,
   address_end,
@@ -66,12 +66,12 @@ more_same :
 more_same counts k l e h = rw e (get_or-set_same counts l (get_or counts l 0 + 1) 0 h)
 
 -- So the counts go on with what the entry's list has more.
-count-entry :
+count_entry :
     (s counts : List ℕ) (at : ℕ) (e : MadtEntry) → next_at s at ≡ Entry e → length counts ≡ 6 →
     (k : ℕ) → k ≡ list_of e.kind → (l : ℕ) → l < 6 →
     get_or (set counts k (get_or counts k 0 + 1)) l 0 + length (those l (entries_from s (at + e.len)))
     ≡ get_or counts l 0 + length (those l (entries_from s at))
-count-entry s counts at e h six k q l small = go (differ (list_of e.kind) l) refl
+count_entry s counts at e h six k q l small = go (differ (list_of e.kind) l) refl
   where
     go :
         (t : Bool) → differ (list_of e.kind) l ≡ t →
@@ -79,11 +79,11 @@ count-entry s counts at e h six k q l small = go (differ (list_of e.kind) l) ref
         ≡ get_or counts l 0 + length (those l (entries_from s at))
     go true d =
         let other = get_or-set_other counts k l (get_or counts k 0 + 1) 0 (λ p. differ_true _ _ d (sym (p ∙ q))) in
-        let rest = ap length (those-entry s at e h l ∙ when_hit _ _ _ d) in
+        let rest = ap length (those_entry s at e h l ∙ when_hit _ _ _ d) in
         omega arith
     go false d =
         let same = more_same counts k l (q ∙ differ_false _ _ d) (omega arith) in
-        let rest = ap length (those-entry s at e h l ∙ when_pass _ _ _ d) in
+        let rest = ap length (those_entry s at e h l ∙ when_pass _ _ _ d) in
         omega arith
 
 module _
@@ -95,26 +95,26 @@ module _
     (was : Surveying s first counts known bad address at)
   where
     -- An entry is taken in.
-    pub survey-entry :
+    pub survey_entry :
         {e : MadtEntry} {l : ℕ} {b w : Bool} {a : ℕ} → next_at s at ≡ Entry e → l ≡ list_of e.kind → b ≡ of_model e.kind →
         w ≡ wrong_at s at e.kind → a ≡ address_after s address at e.kind →
         Surveying s first (set counts l (get_or counts l 0 + 1)) (known || b) (bad || w) a (at + e.len)
-    survey-entry {e} {l} {b} {w} {a} h ql qb qw qa =
+    survey_entry {e} {l} {b} {w} {a} h ql qb qw qa =
         let place = (stands s at e h).place in
         let after : a ≡ address_after s address e.at e.kind = cc in
         record {
           places = length-set counts l (get_or counts l 0 + 1) ∙ was.places;
-          counted = λ i small. count-entry s counts at e h was.places l ql i small ∙ was.counted i small;
+          counted = λ i small. count_entry s counts at e h was.places l ql i small ∙ was.counted i small;
           belonging = some_more s at e h belongs known b _ qb was.belonging;
           mistaken = some_more s at e h (wrong s) bad w _ (cc) was.mistaken;
-          addressed = rw after (sym (address-entry s at e h address) ∙ was.addressed);
-          faults = sym (faulty-entry s at e h) ∙ was.faults;
+          addressed = rw after (sym (address_entry s at e h address) ∙ was.addressed);
+          faults = sym (faulty_entry s at e h) ∙ was.faults;
         }
 
     -- A count stays below the number of entries, and so below the table's length, while an entry of its list is to come.
     pub count_small : {e : MadtEntry} {l : ℕ} → next_at s at ≡ Entry e → l ≡ list_of e.kind → get_or counts l 0 + 1 ≤ length s
     count_small {e} {l} h q =
-        let in_List = ap length (those-entry s at e h l ∙ when_pass _ _ _ (differ_no _ _ (sym q))) in
+        let in_List = ap length (those_entry s at e h l ∙ when_pass _ _ _ (differ_no _ _ (sym q))) in
         let all = was.counted l (rw q (list_small e.kind)) in
         omega (arith, those_short l (entries s), entries_short s)
 

@@ -1,6 +1,6 @@
 use Rattle.std.proofs.Common.{refl, sym, ◌∙◌, arith}
 use Rattle.madt.specs.Entries.{entries}
-use Rattle.madt.proofs.EntryLaws.{stands, nth_here, nth-next, nth_fault, nth_past_fault, nth_end}
+use Rattle.madt.proofs.EntryLaws.{stands, nth_here, nth_next, nth_fault, nth_past_fault, nth_end}
 use Rattle.madt.proofs.kth.Goals as goal
 
 pub loop-e-init : goal.loop-e-init
@@ -17,7 +17,7 @@ pub loop-e-smaller : goal.loop-e-smaller
 loop-e-smaller c = omega (arith, stands _ _ _ (sym c.next_entry.ensures ∙ c.in-Entry.is))
 
 pub loop-e-preserved : goal.loop-e-preserved
-loop-e-preserved c = sym (nth-next _ _ _ _ (sym c.next_entry.ensures ∙ c.in-Entry.is) c.if-left-eq0.false) ∙ c.loop-e.invariant
+loop-e-preserved c = sym (nth_next _ _ _ _ (sym c.next_entry.ensures ∙ c.in-Entry.is) c.if-left-eq0.false) ∙ c.loop-e.invariant
 
 pub returns-then-left-eq0-2 : goal.returns-then-left-eq0-2
 returns-then-left-eq0-2 c =

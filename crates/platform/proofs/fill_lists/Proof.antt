@@ -9,10 +9,10 @@ use lib.ListN.{length}
 use Rattle.madt.specs.Kinds.{kind_of, least_length}
 use Rattle.madt.specs.Entries.{entry_at, next_at, entries_from, entries, faulty}
 use Rattle.madt.specs.declared.Next.TheVariants.{Entry}
-use Rattle.madt.proofs.EntryLaws.{Stands, stands, sound-entry}
+use Rattle.madt.proofs.EntryLaws.{Stands, stands, sound_entry}
 use Rattle.platform.specs.Lists.{processors, io_apics, interrupt_source_overrides, nmi_sources, local_apic_nmi_lines}
 use Rattle.platform.proofs.ListLaws.{those_past}
-use Rattle.platform.proofs.FillLaws.{Filling, fill_start, fill_end, Turn, fill_room, fill-entry, still-sound}
+use Rattle.platform.proofs.FillLaws.{Filling, fill_start, fill_end, Turn, fill_room, fill_entry, still_sound}
 use Rattle.platform.proofs.fill_lists.Statement.{statement}
 use Rattle.platform.proofs.fill_lists.Tie as tie
 
@@ -74,7 +74,7 @@ entry_here :
     (c : tie.In-loop invariant-loop decreases-loop) →
     next_at (start c.before).args.table.now c.before.loop.at
     ≡ Entry (entry_at (start c.before).args.table.now c.before.loop.at)
-entry_here c = sound-entry _ _ c.before.loop.invariant.0 c.loop-test.true
+entry_here c = sound_entry _ _ c.before.loop.invariant.0 c.loop-test.true
 
 -- What a turn knows once the record is read.
 at_turn :
@@ -165,13 +165,13 @@ loop-again c =
     let t = at_turn p₁.before.before in
     let was = (loop-of p₁.before.before).loop.inv in
     let len = c.u8-at2.ensures in (
-      still-sound t was.0 len,
-      fill-entry t processors _ (omega arith) (λ _. refl) was.1 p₁.put.ensures.0 p₁.put.ensures.1 len,
-      fill-entry t io_apics _ (omega arith) (λ z. absurd (omega arith)) was.2 p₂.put2.ensures.0 p₂.put2.ensures.1 len,
-      fill-entry t interrupt_source_overrides _ (omega arith) (λ z. absurd (omega arith)) was.3 p₃.put3.ensures.0
+      still_sound t was.0 len,
+      fill_entry t processors _ (omega arith) (λ _. refl) was.1 p₁.put.ensures.0 p₁.put.ensures.1 len,
+      fill_entry t io_apics _ (omega arith) (λ z. absurd (omega arith)) was.2 p₂.put2.ensures.0 p₂.put2.ensures.1 len,
+      fill_entry t interrupt_source_overrides _ (omega arith) (λ z. absurd (omega arith)) was.3 p₃.put3.ensures.0
           p₃.put3.ensures.1 len,
-      fill-entry t nmi_sources _ (omega arith) (λ z. absurd (omega arith)) was.4 p₄.put4.ensures.0 p₄.put4.ensures.1 len,
-      fill-entry t local_apic_nmi_lines _ (omega arith) (λ z. absurd (omega arith)) was.5 p₅.put5.ensures.0 p₅.put5.ensures.1
+      fill_entry t nmi_sources _ (omega arith) (λ z. absurd (omega arith)) was.4 p₄.put4.ensures.0 p₄.put4.ensures.1 len,
+      fill_entry t local_apic_nmi_lines _ (omega arith) (λ z. absurd (omega arith)) was.5 p₅.put5.ensures.0 p₅.put5.ensures.1
           len,
     )
 

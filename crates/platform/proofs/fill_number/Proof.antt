@@ -1,6 +1,6 @@
 -- `fill_number` meets its contract: what refuses the model refuses, and the counts say whether there is room.
 use mathlib.Core.Path.{sym, ◌∙◌}
-use Rattle.platform.proofs.RoomLaws.{Accepted, is_accepted, short-by-counts, fill_refused, fill_short, fill_fits}
+use Rattle.platform.proofs.RoomLaws.{Accepted, is_accepted, short_by_counts, fill_refused, fill_short, fill_fits}
 use borrow.Author.Rules.{rules}
 use Rattle.platform.proofs.fill_number.Statement.{statement}
 use Rattle.platform.proofs.fill_number.Tie as tie
@@ -18,7 +18,7 @@ enum-known-m c = search rules
 returns : tie.Need-returns
 returns c =
     let a = accepted c.before.before.before.before.before.before.before in
-    fill_short _ _ _ _ _ _ a.none (sym (short-by-counts _ _ _ _ _ _ _ a.model) ∙ c.if1.true)
+    fill_short _ _ _ _ _ _ a.none (sym (short_by_counts _ _ _ _ _ _ _ a.model) ∙ c.if1.true)
 
 enum-known-n : tie.Need-enum-known-n
 enum-known-n c = search rules
@@ -26,7 +26,7 @@ enum-known-n c = search rules
 returns-2 : tie.Need-returns-2
 returns-2 c =
     let a = accepted c.before.before.before.before.before.before.before in
-    fill_fits _ _ _ _ _ _ a.none (sym (short-by-counts _ _ _ _ _ _ _ a.model) ∙ c.if1.false)
+    fill_fits _ _ _ _ _ _ a.none (sym (short_by_counts _ _ _ _ _ _ _ a.model) ∙ c.if1.false)
 
 returns-3 : tie.Need-returns-3
 returns-3 c = fill_refused _ _ _ _ _ _ _ (sym c.before.before.before.interrupt-model.ensures ∙ c.before.n.given.1)

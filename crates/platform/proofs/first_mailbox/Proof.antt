@@ -9,7 +9,7 @@ use Rattle.madt.specs.declared.Next.TheVariants.{Entry}
 use Rattle.madt.proofs.EntryLaws.{stands}
 use Rattle.platform.specs.declared.Mailbox.TheVariants.{Address}
 use Rattle.platform.specs.Mailbox.{first_mailbox}
-use Rattle.platform.proofs.MailboxLaws.{wakeup_length, mailbox-here, mailbox-next, mailbox_fault, mailbox_end}
+use Rattle.platform.proofs.MailboxLaws.{wakeup_length, mailbox_here, mailbox_next, mailbox_fault, mailbox_end}
 use Rattle.platform.proofs.first_mailbox.Statement.{statement}
 use Rattle.platform.proofs.first_mailbox.Tie as tie
 
@@ -27,9 +27,9 @@ entry_here :
 entry_here c = sym c.before.before.before.next-entry.ensures ∙ c.before.e.given.1
 
 -- Where it is a wakeup entry, its mailbox lies in the table.
-mailbox-inside :
+mailbox_inside :
     (c : tie.Then1 invariant-loop decreases-loop) → c.before.before.before.before.before.before.loop.at + 16 ≤ length c.before.before.before.before.before.before.before.before.args.table.now
-mailbox-inside c =
+mailbox_inside c =
     let wakeup = wakeup_length c.before.before.before.e.given.0.0.kind (sym c.before.is-wakeup.ensures ∙ c.if1.true) in
     omega (arith, stands _ _ _ (entry_here c.before.before))
 
@@ -47,14 +47,14 @@ is-wakeup-requires : tie.Need-is-wakeup-requires invariant-loop decreases-loop
 is-wakeup-requires c κs = search rules
 
 add-u64-at : tie.Need-overflow-add-u64-at invariant-loop decreases-loop
-add-u64-at c = omega (arith, mailbox-inside c)
+add-u64-at c = omega (arith, mailbox_inside c)
 
 u64-at-requires : tie.Need-u64-at-requires invariant-loop decreases-loop
-u64-at-requires c κs = omega (arith, mailbox-inside c)
+u64-at-requires c κs = omega (arith, mailbox_inside c)
 
 returns : tie.Need-returns invariant-loop decreases-loop
 returns c =
-    let here = mailbox-here _ _ _ (entry_here c.before.before.before) (sym c.before.before.is-wakeup.ensures ∙ c.before.if1.true) in
+    let here = mailbox_here _ _ _ (entry_here c.before.before.before) (sym c.before.before.is-wakeup.ensures ∙ c.before.if1.true) in
     ap Address c.u64-at.ensures ∙ (sym here ∙ c.before.before.before.before.before.before.before.loop.invariant)
 
 add_at : tie.Need-overflow-add-at invariant-loop decreases-loop
@@ -65,7 +65,7 @@ loop-less c = omega (arith, stands _ _ _ (entry_here c.before.before.before))
 
 loop-again : tie.Need-loop-preserved invariant-loop decreases-loop
 loop-again c =
-    let next = mailbox-next _ _ _ (entry_here c.before.before.before) (sym c.before.before.is-wakeup.ensures ∙ c.before.if1.false) in
+    let next = mailbox_next _ _ _ (entry_here c.before.before.before) (sym c.before.before.is-wakeup.ensures ∙ c.before.if1.false) in
     sym next ∙ c.before.before.before.before.before.before.before.loop.invariant
 
 enum_told : tie.Need-enum-told invariant-loop decreases-loop

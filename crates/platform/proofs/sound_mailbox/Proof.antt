@@ -1,6 +1,6 @@
 -- `sound_mailbox` meets its contract: a fault refuses, and where there is none the first mailbox is the answer.
 use mathlib.Core.Path.{sym, ◌∙◌}
-use Rattle.platform.proofs.ModelLaws.{told_fault, told-sound}
+use Rattle.platform.proofs.ModelLaws.{told_fault, told_sound}
 use Rattle.platform.proofs.MailboxLaws.{mailbox_faulty, mailbox_sound}
 use borrow.Author.Rules.{rules}
 use Rattle.platform.proofs.sound_mailbox.Statement.{statement}
@@ -23,7 +23,7 @@ returns c = mailbox_faulty _ c.before.before.before.before.requires (told_fault 
 
 returns-2 : tie.Need-returns-2
 returns-2 c =
-    let sound = told-sound _ _ _ _ (sym c.before.before.before.survey.ensures ∙ c.before.enum-told2.given.1) in
+    let sound = told_sound _ _ _ _ (sym c.before.before.before.survey.ensures ∙ c.before.enum-told2.given.1) in
     c.first-mailbox.ensures ∙ mailbox_sound _ c.before.before.before.before.before.requires sound
 
 pub sound_mailbox_spec : {M : Type 1} → statement M

@@ -12,7 +12,7 @@ use Rattle.platform.specs.Lists.{processors, io_apics, interrupt_source_override
 use Rattle.platform.specs.Model.{model_with}
 use Rattle.platform.specs.Inner.{seen_of}
 use Rattle.platform.proofs.KindLaws.{list_small}
-use Rattle.platform.proofs.SurveyLaws.{Surveying, survey_start, survey-entry, survey_end, survey_fault, count_small}
+use Rattle.platform.proofs.SurveyLaws.{Surveying, survey_start, survey_entry, survey_end, survey_fault, count_small}
 use Rattle.platform.proofs.survey.Statement.{statement}
 use Rattle.platform.proofs.survey.Tie as tie
 
@@ -74,7 +74,7 @@ loop-less c = omega (arith, stands _ _ _ (entry_here c.before.before.before.befo
 
 loop-again : tie.Need-loop-preserved invariant-loop decreases-loop
 loop-again c =
-    survey-entry c.before.before.before.before.before.before.before.before.before.loop.invariant (entry_here c.before.before.before.before.before) c.before.before.before.before.list_of.ensures
+    survey_entry c.before.before.before.before.before.before.before.before.before.loop.invariant (entry_here c.before.before.before.before.before) c.before.before.before.before.list_of.ensures
     c.before.before.before.of-model.ensures c.before.before.wrong-at.ensures c.before.address-after.ensures
 
 enum_told : tie.Need-enum-told invariant-loop decreases-loop

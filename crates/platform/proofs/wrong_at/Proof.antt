@@ -2,7 +2,7 @@
 use mathlib.Core.Path.{ap}
 use native.Mathlib.Omega.{arith}
 use Rattle.madt.specs.Kinds.{least_length}
-use Rattle.platform.proofs.KindLaws.{never-wrong}
+use Rattle.platform.proofs.KindLaws.{never_wrong}
 use borrow.Author.Rules.{rules}
 use Rattle.platform.proofs.wrong_at.Statement.{statement}
 use Rattle.platform.proofs.wrong_at.Tie as tie
@@ -62,7 +62,7 @@ returns-4 : tie.Need-returns-4
 returns-4 c = rw c.before.enum-told4.given.1 (cc)
 
 returns-5 : tie.Need-returns-5
-returns-5 c = never-wrong c.before.before.args.table.now c.before.before.args.at c.before.before.args.kind c.match.keys5
+returns-5 c = never_wrong c.before.before.args.table.now c.before.before.args.at c.before.before.args.kind c.match.keys5
 
 pub wrong_at_spec : {M : Type 1} → statement M
 wrong_at_spec =
