@@ -1,8 +1,5 @@
 -- Laws about what the kinds of entries are to the model.
-use Rattle.std.proofs.Common.{ℕ, ◌<◌, ◌≡◌, refl, List, [], ◌∷◌, false, true≢false, arith}
-use types.Run.{OneOf, miss}
-use denote.Enum.Declared.{tag_of}
-use Rattle.madt.specs.contracts.Kind.{the_type}
+use Rattle.std.proofs.Common.{ℕ, ◌<◌, ◌≡◌, refl, List, false, true≢false, arith}
 use Rattle.madt.specs.declared.Kind.{Kind}
 use Rattle.madt.specs.declared.Kind.TheVariants.{
   LocalApic,
@@ -23,42 +20,39 @@ use Rattle.platform.specs.Model.{address_after}
 use Rattle.platform.specs.Records.{record_of}
 use Rattle.platform.specs.Wrong.{wrong_at}
 
--- The kinds that `wrong_at` and that `record_of` have no arm for, by their places in the enum.
-abbrev unchecked : List ℕ
-unchecked = 0 ∷ 1 ∷ 5 ∷ 6 ∷ 8 ∷ 9 ∷ 10 ∷ []
-
-abbrev unlisted : List ℕ
-unlisted = 5 ∷ 8 ∷ 9 ∷ 10 ∷ []
-
 -- Entries of the kinds that have no arm of their own are never wrong.
 pub never_wrong :
-    (s : List ℕ) (at : ℕ) (k : Kind) → OneOf unchecked (tag_of the_type k) → false ≡ wrong_at s at k
-never_wrong s at InterruptSourceOverride h = absurd (miss unchecked 2 tt h)
-never_wrong s at NmiSource h = absurd (miss unchecked 3 tt h)
-never_wrong s at LocalApicNmi h = absurd (miss unchecked 4 tt h)
-never_wrong s at X2ApicNmi h = absurd (miss unchecked 7 tt h)
-never_wrong s at LocalApic h = refl
-never_wrong s at LocalX2Apic h = refl
-never_wrong s at IoApic h = refl
-never_wrong s at LocalApicAddressOverride h = refl
-never_wrong s at MultiprocessorWakeup h = refl
-never_wrong s at Foreign h = refl
-never_wrong s at Reserved h = refl
+    (s : List ℕ) (at : ℕ) (k : Kind)
+    → (k ≡ InterruptSourceOverride → ⊥) → (k ≡ NmiSource → ⊥) → (k ≡ LocalApicNmi → ⊥) → (k ≡ X2ApicNmi → ⊥)
+    → false ≡ wrong_at s at k
+never_wrong s at LocalApic _ _ _ _ = refl
+never_wrong s at IoApic _ _ _ _ = refl
+never_wrong s at InterruptSourceOverride not _ _ _ = absurd (not refl)
+never_wrong s at NmiSource _ not _ _ = absurd (not refl)
+never_wrong s at LocalApicNmi _ _ not _ = absurd (not refl)
+never_wrong s at LocalApicAddressOverride _ _ _ _ = refl
+never_wrong s at LocalX2Apic _ _ _ _ = refl
+never_wrong s at X2ApicNmi _ _ _ not = absurd (not refl)
+never_wrong s at MultiprocessorWakeup _ _ _ _ = refl
+never_wrong s at Foreign _ _ _ _ = refl
+never_wrong s at Reserved _ _ _ _ = refl
 
 -- Nor have those that go to no list a record.
 pub no_record :
-    (s : List ℕ) (enabled at : ℕ) (k : Kind) → OneOf unlisted (tag_of the_type k) → Nothing ≡ record_of s enabled at k
-no_record s enabled at LocalApic h = absurd (miss unlisted 0 tt h)
-no_record s enabled at IoApic h = absurd (miss unlisted 1 tt h)
-no_record s enabled at InterruptSourceOverride h = absurd (miss unlisted 2 tt h)
-no_record s enabled at NmiSource h = absurd (miss unlisted 3 tt h)
-no_record s enabled at LocalApicNmi h = absurd (miss unlisted 4 tt h)
-no_record s enabled at LocalX2Apic h = absurd (miss unlisted 6 tt h)
-no_record s enabled at X2ApicNmi h = absurd (miss unlisted 7 tt h)
-no_record s enabled at LocalApicAddressOverride h = refl
-no_record s enabled at MultiprocessorWakeup h = refl
-no_record s enabled at Foreign h = refl
-no_record s enabled at Reserved h = refl
+    (s : List ℕ) (enabled at : ℕ) (k : Kind)
+    → (k ≡ LocalApic → ⊥) → (k ≡ LocalX2Apic → ⊥) → (k ≡ IoApic → ⊥) → (k ≡ InterruptSourceOverride → ⊥) → (k ≡ NmiSource → ⊥) → (k ≡ LocalApicNmi → ⊥) → (k ≡ X2ApicNmi → ⊥)
+    → Nothing ≡ record_of s enabled at k
+no_record s enabled at LocalApic not _ _ _ _ _ _ = absurd (not refl)
+no_record s enabled at IoApic _ _ not _ _ _ _ = absurd (not refl)
+no_record s enabled at InterruptSourceOverride _ _ _ not _ _ _ = absurd (not refl)
+no_record s enabled at NmiSource _ _ _ _ not _ _ = absurd (not refl)
+no_record s enabled at LocalApicNmi _ _ _ _ _ not _ = absurd (not refl)
+no_record s enabled at LocalApicAddressOverride _ _ _ _ _ _ _ = refl
+no_record s enabled at LocalX2Apic _ not _ _ _ _ _ = absurd (not refl)
+no_record s enabled at X2ApicNmi _ _ _ _ _ _ not = absurd (not refl)
+no_record s enabled at MultiprocessorWakeup _ _ _ _ _ _ _ = refl
+no_record s enabled at Foreign _ _ _ _ _ _ _ = refl
+no_record s enabled at Reserved _ _ _ _ _ _ _ = refl
 
 -- The list's number is a place in the array of counts.
 pub list_small : (k : Kind) → list_of k < 6
@@ -75,22 +69,21 @@ list_small Foreign = omega arith
 list_small Reserved = omega arith
 
 -- A kind that is no address override leaves the local address as it is.
-abbrev unaddressed : List ℕ
-unaddressed = 0 ∷ 1 ∷ 2 ∷ 3 ∷ 4 ∷ 6 ∷ 7 ∷ 8 ∷ 9 ∷ 10 ∷ []
-
 pub same_address :
-    (s : List ℕ) (address at : ℕ) (k : Kind) → OneOf unaddressed (tag_of the_type k) → address ≡ address_after s address at k
-same_address s address at LocalApicAddressOverride h = absurd (miss unaddressed 5 tt h)
-same_address s address at LocalApic h = refl
-same_address s address at LocalX2Apic h = refl
-same_address s address at IoApic h = refl
-same_address s address at InterruptSourceOverride h = refl
-same_address s address at NmiSource h = refl
-same_address s address at LocalApicNmi h = refl
-same_address s address at X2ApicNmi h = refl
-same_address s address at MultiprocessorWakeup h = refl
-same_address s address at Foreign h = refl
-same_address s address at Reserved h = refl
+    (s : List ℕ) (address at : ℕ) (k : Kind)
+    → (k ≡ LocalApicAddressOverride → ⊥)
+    → address ≡ address_after s address at k
+same_address s address at LocalApic _ = refl
+same_address s address at IoApic _ = refl
+same_address s address at InterruptSourceOverride _ = refl
+same_address s address at NmiSource _ = refl
+same_address s address at LocalApicNmi _ = refl
+same_address s address at LocalApicAddressOverride not = absurd (not refl)
+same_address s address at LocalX2Apic _ = refl
+same_address s address at X2ApicNmi _ = refl
+same_address s address at MultiprocessorWakeup _ = refl
+same_address s address at Foreign _ = refl
+same_address s address at Reserved _ = refl
 
 -- A kind that does not belong to the model goes to no list.
 pub stranger : (k : Kind) → of_model k ≡ false → list_of k ≡ no_list
