@@ -1,5 +1,5 @@
 -- Laws about answers and buffers: what each way out of a writer reports.
-use Rattle.std.proofs.Common.{ℕ, suc, ◌+◌, ◌≤◌, ◌<◌, add-one, ◌≡◌, refl, ap, sym, ◌∙◌, subst, not, List, length, get_or, set, drop, drop_of_length-le, drop-cons}
+use Rattle.std.proofs.Common.{ℕ, ◌+◌, ◌≤◌, ◌<◌, add-one, ◌≡◌, refl, ap, sym, ◌∙◌, subst, not, List, length, get_or, set, drop, drop_of_length-le, drop-cons}
 use Rattle.field.specs.First.{differ, when}
 use lib.Seq.{sets}
 use Rattle.field.proofs.FirstLaws.{less_yes, less_no, differ_yes, differ_no, when_hit, when_pass}

@@ -1,5 +1,5 @@
 -- What each kind of answer gives to a caller in another language: its values in order, or its refusal.
-use Rattle.std.specs.Prelude.{ℕ, ◌+◌, ◌-◌, ◌^◌, List, [], ◌∷◌, Bool, true, false}
+use Rattle.std.specs.Prelude.{ℕ, ◌+◌, ◌-◌, ◌^◌, [], ◌∷◌, Bool, true, false}
 use Rattle.field.specs.First.{less, when}
 use Rattle.rsdp.specs.declared.RootPointer.{RootPointer}
 use Rattle.rsdp.specs.declared.RootPointer.TheVariants.{Valid}

@@ -1,0 +1,13 @@
+-- `generic` meets its contract: a refusal is handed on, and the values are written in order.
+use Rattle.std.proofs.Common.{ap, ◌∙◌}
+use Rattle.answers.specs.Words.{generic_answer}
+use Rattle.answers.proofs.AnswerLaws.{handed_on, same_answer}
+use Rattle.answers.proofs.report.generic.Goals as goal
+
+pub returns-in-Refused : goal.returns-in-Refused
+unfolding generic_answer
+returns-in-Refused c = same_answer (ap generic_answer c.in-Refused.is) (handed_on _ _)
+
+pub returns-in-Address : goal.returns-in-Address
+unfolding generic_answer
+returns-in-Address c = same_answer (ap generic_answer c.in-Address.is ∙ rw (← c.size_number-size.ensures, ← c.space_number-space.ensures)) c.put.ensures
