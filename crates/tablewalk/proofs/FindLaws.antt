@@ -1,6 +1,6 @@
 -- Laws about a table that was found: its header is mapped, so its bytes can be handed to its reader.
 use Rattle.std.proofs.Common.{ℕ, ◌≤◌, ◌≡◌, refl, ap, sym, ◌∙◌, subst, List, true, arith, length}
-use Rattle.field.specs.Choice.{Choice, nth_valid, Nth}
+use Rattle.field.specs.Choice.{Choice, nth_valid}
 use Rattle.field.specs.Choice.Choice.{nothing, chosen}
 use Rattle.field.proofs.ChoiceLaws.{chosen_is_nth}
 use Rattle.memory.specs.Ranges.{right}
@@ -10,12 +10,10 @@ use Rattle.sdt.specs.declared.Wanted.{Wanted}
 use Rattle.tables.specs.Root.{root_of, listed}
 use Rattle.tables.specs.Tables.{table_in, refusal_at, found, nth_in, nth_table}
 use Rattle.tables.specs.declared.Root.{Root}
-use Rattle.tables.specs.declared.RootTable.{RootTable}
 use Rattle.tables.specs.declared.Found.{Found}
 use Rattle.tables.specs.declared.Table.{Table}
 use Rattle.tables.proofs.EntryLaws.{rooted, valid_header}
 use Rattle.answers.specs.Answer.{Answer, Reported}
-use Rattle.answers.specs.Answer.Answer.{refused}
 use Rattle.tablewalk.specs.Asked.{asked_of}
 use Rattle.tablewalk.specs.Lists.{ListsAsked}
 use Rattle.platform.specs.Fill.{Filled}

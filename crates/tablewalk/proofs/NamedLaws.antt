@@ -1,8 +1,8 @@
 -- Only the named bytes count in the questions about tables that are found first.
-use Rattle.std.proofs.Common.{ℕ, ◌≡◌, refl, ap, sym, ◌∙◌, subst, List, ◌++◌, arith, length}
+use Rattle.std.proofs.Common.{ℕ, ◌≡◌, refl, ap, sym, ◌∙◌, subst, List, arith, length}
 use Rattle.field.specs.Choice.{Choice, nth_valid, looked_at, All}
 use Rattle.field.specs.Choice.Choice.{nothing, chosen}
-use Rattle.field.specs.Choice.All.{none, with}
+use Rattle.field.specs.Choice.All.{with}
 use Rattle.field.proofs.FirstLaws.{when_pass}
 use Rattle.field.proofs.ChoiceLaws.{all_left, all_right, all_chosen, chosen_is_nth}
 use Rattle.memory.specs.Places.{view_of}
@@ -23,7 +23,6 @@ use Rattle.fadt.specs.declared.Value.{Value}
 use Rattle.platform.specs.Model.{model_of}
 use Rattle.platform.specs.Fill.{Filled}
 use Rattle.platform.specs.declared.Answer.{Answer as PlatformAnswer}
-use Rattle.answers.specs.Answer.{Answer}
 use Rattle.answers.specs.Answer.Answer.{refused}
 use Rattle.answers.specs.Words.{aml_answer}
 use Rattle.tablewalk.specs.Asked.{dsdt_answer, asked_of}

@@ -5,7 +5,7 @@ ghost use Rattle.mcfg.specs.Entries.{entry_count_of, entry_of};
 ghost use Rattle.mcfg.specs.Physical.{physical_address_of};
 ghost use Rattle.fadt.specs.Fields.{fixed_fields};
 ghost use Rattle.madt.specs.Fixed.{fixed_of};
-ghost use Rattle.madt.specs.Entries.{entry_of as madtEntryOf};
+ghost use Rattle.madt.specs.Entries.{entry_of as madt_entry_of};
 ghost use Rattle.fadt.specs.Values.{dsdt_address};
 ghost use Rattle.platform.specs.Model.{model_of};
 ghost use Rattle.platform.specs.Mailbox.{mailbox_of};
@@ -191,7 +191,7 @@ pub extern "C" fn tablewalk_madt_entry(
     k: usize,
     out: &mut [u64],
 ) -> u32
-    ensures { Reported (asked_of image.now ranges.now (λ (t : List ℕ). madt_entry_answer (madtEntryOf t k)) (nth_table image.now ranges.now rsdp (Signature 0x43495041) 44 0)) result out.old out.new }
+    ensures { Reported (asked_of image.now ranges.now (λ (t : List ℕ). madt_entry_answer (madt_entry_of t k)) (nth_table image.now ranges.now rsdp (Signature 0x43495041) 44 0)) result out.old out.new }
 {
     match tables::find_table(image, ranges, rsdp, APIC, 44) {
         tables::Found::Refused(n) => n,

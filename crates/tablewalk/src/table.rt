@@ -4,7 +4,7 @@ ghost use Rattle.mcfg.specs.Entries.{entry_count_of, entry_of};
 ghost use Rattle.mcfg.specs.Physical.{physical_address_of};
 ghost use Rattle.fadt.specs.Fields.{fixed_fields};
 ghost use Rattle.madt.specs.Fixed.{fixed_of};
-ghost use Rattle.madt.specs.Entries.{entry_of as madtEntryOf};
+ghost use Rattle.madt.specs.Entries.{entry_of as madt_entry_of};
 ghost use Rattle.platform.specs.Model.{model_of};
 ghost use Rattle.platform.specs.Mailbox.{mailbox_of};
 ghost use Rattle.platform.specs.Fill.{Filled};
@@ -95,7 +95,7 @@ pub extern "C" fn tablewalk_table_madt_fixed(table: &[u8], out: &mut [u64]) -> u
 // The k-th entry of the MADT, counted from 0: number of its kind, offset in the table, length.
 #[unsafe(no_mangle)]
 pub extern "C" fn tablewalk_table_madt_entry(table: &[u8], k: usize, out: &mut [u64]) -> u32
-    ensures { Reported (madt_entry_answer (madtEntryOf table.now k)) result out.old out.new }
+    ensures { Reported (madt_entry_answer (madt_entry_of table.now k)) result out.old out.new }
 {
     report::madt_entry(madt::entry(table, k), out)
 }
