@@ -56,7 +56,7 @@ unfolding space_of
 space_has_its_number n space e =
     when_cases _ _ _ e (λ t h. cc (in_order space_number SystemMemory spaces 0 n refl (less_true _ _ t), zero-add n))
     (λ _ e₁. when_cases _ _ _ e₁ (λ _ h. never (cc))
-    (λ t₁ e₂. when_cases _ _ _ e₂ (λ t₂ h. let n-is : 0x7f ≡ n = omega (arith, less_false _ _ t₁, less_true _ _ t₂) in cc)
+    (λ t₁ e₂. when_cases _ _ _ e₂ (λ t₂ h. let n_is : 0x7f ≡ n = omega (arith, less_false _ _ t₁, less_true _ _ t₂) in cc)
     (λ _ e₃. when_cases _ _ _ e₃ (λ _ h. never (cc)) (λ _ h. cc))))
 
 -- The list is in the order of its numbers.

@@ -164,8 +164,8 @@ module _
             let next : enabled_at (to + length (spelled words)) ≡ waiting = later_waits _ (omega (arith, some_words l small)) in
             let place = (stands s at e t.stands_here).place in
             let same = same_record s p to at e.kind l f mine in
-            let record-here : record_of s (enabled_at to) e.at e.kind ≡ words = cc t.recorded in
-            rw (all, next, those_entry s at e t.stands_here l, when_pass _ _ _ d, record-here) refl
+            let record_here : record_of s (enabled_at to) e.at e.kind ≡ words = cc t.recorded in
+            rw (all, next, those_entry s at e t.stands_here l, when_pass _ _ _ d, record_here) refl
 
     -- There is room for what is chosen, and with it written the table is filled up to behind the entry.
     pub fill_room : {before now : List ℕ} → Filling l s before now to at → to + length (chosen l words) ≤ length now

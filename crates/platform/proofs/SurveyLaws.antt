@@ -114,7 +114,7 @@ module _
     -- A count stays below the number of entries, and so below the table's length, while an entry of its list is to come.
     pub count_small : {e : MadtEntry} {l : ℕ} → next_at s at ≡ Entry e → l ≡ list_of e.kind → get_or counts l 0 + 1 ≤ length s
     count_small {e} {l} h q =
-        let in_List = ap length (those_entry s at e h l ∙ when_pass _ _ _ (differ_no _ _ (sym q))) in
+        let in_list = ap length (those_entry s at e h l ∙ when_pass _ _ _ (differ_no _ _ (sym q))) in
         let all = was.counted l (rw q (list_small e.kind)) in
         omega (arith, those_short l (entries s), entries_short s)
 

@@ -15,7 +15,7 @@ use Rattle.sdt.specs.declared.Wanted.{Wanted}
 use Rattle.sdt.specs.declared.Wanted.TheVariants.{Signature}
 use Rattle.sdt.specs.Statements.{ValidTable}
 use Rattle.sdt.proofs.ValidLaws.{valid_root_sums, valid_sums}
-use Rattle.tables.specs.Root.{kind_of, address_of, signature_of, size_of, entries_from, root_table_in, root_at, root_from, root_of, listed, answered as answeredRoot}
+use Rattle.tables.specs.Root.{kind_of, address_of, signature_of, size_of, entries_from, root_table_in, root_at, root_from, root_of, listed, answered as answered_root}
 use Rattle.tables.specs.Tables.{kth, entry_in, entry_of, refusal_at, found, nth_in, nth_table, answered}
 use Rattle.tables.specs.Good.{GoodRoot}
 use Rattle.tables.specs.declared.Root.TheVariants.{Table, Refused}
@@ -104,13 +104,13 @@ rooted_in image words kind address root ranged valid e =
 
 rooted_at : (image words : List ℕ) (kind : RootKind) (address : ℕ) (root : RootTable) → right (length image) words ≡ true
     → root_at image words kind address ≡ Table root → Rooted image words root
-unfolding root_at answeredRoot
+unfolding root_at answered_root
 rooted_at image words kind address root ranged e = go (root_refusal (Signature (signature_of kind)) (view_of image words address)) refl e
   where
     told : RootTable
     told = root_table_in words kind address (view_of image words address)
 
-    go : (n : ℕ) → root_refusal (Signature (signature_of kind)) (view_of image words address) ≡ n → answeredRoot n told ≡ Table root → Rooted image words root
+    go : (n : ℕ) → root_refusal (Signature (signature_of kind)) (view_of image words address) ≡ n → answered_root n told ≡ Table root → Rooted image words root
     go zero q same = rooted_in image words kind address root ranged (valid_root_sums _ (view_of image words address) q) (cc)
     go (suc n) q same = absurd (let z : ◌≡◌ {A = ℕ} 0 1 = cc in omega arith)
 

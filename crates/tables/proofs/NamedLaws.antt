@@ -20,7 +20,7 @@ use Rattle.sdt.specs.Valid.{root_refusal}
 use Rattle.sdt.specs.declared.Wanted.{Wanted}
 use Rattle.sdt.specs.declared.Wanted.TheVariants.{Signature}
 use Rattle.sdt.proofs.ValidLaws.{table_bytes, root_bytes}
-use Rattle.tables.specs.Root.{kind_of, address_of, signature_of, entries_of, root_table_in, root_at, root_from, root_of, listed, answered as answeredRoot}
+use Rattle.tables.specs.Root.{kind_of, address_of, signature_of, entries_of, root_table_in, root_at, root_from, root_of, listed, answered as answered_root}
 use Rattle.tables.specs.Tables.{kth, entry_in, entry_of, table_in, refusal_at, answered, table_at, found, nth_in, nth_table}
 use Rattle.tables.specs.Named.{header_at, whole_at, named_table, named_from, named_root, named_listed, named_find, OnlyNamed}
 use Rattle.tables.specs.Statements.{RootNamed, EntryNamed, TableNamed, FindNamed}
@@ -58,10 +58,10 @@ all_of_each f (p ∷ ps) a = with (all_left (f p) (flat_map f ps) a) (all_of_eac
 
 -- A root table that is answered is the one at the address asked.
 root_address : (image words : List ℕ) (kind : RootKind) (p : ℕ) (root : RootTable) → root_at image words kind p ≡ Table root → p ≡ root.address
-unfolding root_at root_table_in answeredRoot
+unfolding root_at root_table_in answered_root
 root_address image words kind p root e = go (root_refusal (Signature (signature_of kind)) (view_of image words p)) e
   where
-    go : (k : ℕ) → answeredRoot k (root_table_in words kind p (view_of image words p)) ≡ Table root → p ≡ root.address
+    go : (k : ℕ) → answered_root k (root_table_in words kind p (view_of image words p)) ≡ Table root → p ≡ root.address
     go zero same = cc
     go (suc k) same = absurd (let z : ◌≡◌ {A = ℕ} 0 1 = cc in omega arith)
 
@@ -103,7 +103,7 @@ module _ (image image' words : List ℕ) (l : length image ≡ length image') wh
       → root_at image words kind p ≡ root_at image' words kind p
   unfolding root_at root_table_in
   same_root_at kind p header whole =
-      ap₂ answeredRoot
+      ap₂ answered_root
       (root_bytes (Signature (signature_of kind)) (view_of image words p) (view_of image' words p) (view_length_same image image' words p l) header whole)
       (rw (same_length p header))
 

@@ -71,19 +71,19 @@ module _ (image image' words : List ℕ) (l : length image ≡ length image') (w
 
 -- What is answered of a table that was found, and of a refusal, by the table's bytes and by the refusal alone: the same table is
 -- found, and its bytes are the same, so the answer is.
-found_agreed {ℓ} : {A : Type ℓ} (part : List ℕ → List ℕ → Found → A) (byTable : List ℕ → A) (byRefusal : ℕ → A)
-    → ((image words : List ℕ) (t : Table) → part image words (Found.Table t) ≡ byTable (whole_of (view_of image words t.address)))
-    → ((image words : List ℕ) (k : ℕ) → part image words (Found.Refused k) ≡ byRefusal k)
+found_agreed {ℓ} : {A : Type ℓ} (part : List ℕ → List ℕ → Found → A) (by_table : List ℕ → A) (by_refusal : ℕ → A)
+    → ((image words : List ℕ) (t : Table) → part image words (Found.Table t) ≡ by_table (whole_of (view_of image words t.address)))
+    → ((image words : List ℕ) (k : ℕ) → part image words (Found.Refused k) ≡ by_refusal k)
     → (rsdp : ℕ) (wanted : Wanted) (least n : ℕ) (image image' words : List ℕ) → length image ≡ length image'
     → All (AgreeOn image image' words) (named_find image words rsdp wanted least n)
     → part image words (nth_table image words rsdp wanted least n) ≡ part image' words (nth_table image' words rsdp wanted least n)
-found_agreed part byTable byRefusal table refusal rsdp wanted least n image image' words l agree =
+found_agreed part by_table by_refusal table refusal rsdp wanted least n image image' words l agree =
     go (nth_table image words rsdp wanted least n) refl
     ∙ ap (part image' words) ((find_named rsdp wanted least n).agreed image image' words l agree)
   where
     go : (f : Found) → nth_table image words rsdp wanted least n ≡ f → part image words f ≡ part image' words f
     go (Found.Table t) e =
-        table image words t ∙ ap byTable (whole_found image image' words l wanted least n rsdp t agree e) ∙ sym (table image' words t)
+        table image words t ∙ ap by_table (whole_found image image' words l wanted least n rsdp t agree e) ∙ sym (table image' words t)
     go (Found.Refused k) e = refusal image words k ∙ sym (refusal image' words k)
 
 pub asked_named : AskedNamed
