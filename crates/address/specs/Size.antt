@@ -1,5 +1,5 @@
 -- Access sizes (ACPI 6.5, section 5.2.3.2, Table 5.1, field Access Size).
-use Rattle.std.specs.Prelude.{ℕ, ◌≡◌, List, [], ◌∷◌, length, get_or}
+use Rattle.std.specs.Prelude.{ℕ, ◌≡◌, List, [], ◌∷◌, length, slice_index_or}
 use Rattle.field.specs.First.{less, when}
 use Rattle.address.specs.declared.AccessSize.{AccessSize}
 use Rattle.address.specs.declared.AccessSize.TheVariants.{Undefined, ByteAccess, WordAccess, DWordAccess, QWordAccess}
@@ -20,7 +20,7 @@ sizes = Undefined ∷ ByteAccess ∷ WordAccess ∷ DWordAccess ∷ QWordAccess 
 
 -- The access size that the number n names.
 unfoldable pub size_of : ℕ → Size
-size_of n = when (less n (length sizes)) (Sized (get_or sizes n Undefined)) UnknownSize
+size_of n = when (less n (length sizes)) (Sized (slice_index_or sizes n Undefined)) UnknownSize
 
 -- An access size that a number names has that number.
 abbrev pub SizeHasItsNumber : Type 0

@@ -1,5 +1,5 @@
 -- Address spaces (ACPI 6.5, section 5.2.3.2, Table 5.1, field Address Space ID).
-use Rattle.std.specs.Prelude.{ℕ, ◌≡◌, List, [], ◌∷◌, length, get_or}
+use Rattle.std.specs.Prelude.{ℕ, ◌≡◌, List, [], ◌∷◌, length, slice_index_or}
 use Rattle.field.specs.First.{less, when}
 use Rattle.address.specs.declared.AddressSpace.{AddressSpace}
 use Rattle.address.specs.declared.AddressSpace.TheVariants.{SystemMemory, SystemIo, PciConfigSpace, EmbeddedController, SMBus, SystemCmos, PciBarTarget, Ipmi, GeneralIo, GenericSerialBus, PlatformCommunicationsChannel, FunctionalFixedHardware, OemDefined}
@@ -41,7 +41,7 @@ spaces =
 -- The space that the number n names. What lies between the named ones is reserved, and from 0xc0 on a number is the maker's own.
 unfoldable pub space_of : ℕ → Space
 space_of n =
-    when (less n (length spaces)) (Known (get_or spaces n SystemMemory))
+    when (less n (length spaces)) (Known (slice_index_or spaces n SystemMemory))
     (when (less n 0x7f) UnknownSpace
     (when (less n 0x80) (Known FunctionalFixedHardware)
     (when (less n 0xc0) UnknownSpace

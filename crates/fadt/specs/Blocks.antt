@@ -1,5 +1,5 @@
 -- Register blocks, as generic addresses (ACPI 6.5, Table 5.9).
-use Rattle.std.specs.Prelude.{ℕ, ◌+◌, ◌*◌, ◌<◌, ◌≤◌, List, [], ◌∷◌, map, Bool, true, false, ◌&&◌, ◌||◌, get_or}
+use Rattle.std.specs.Prelude.{ℕ, ◌+◌, ◌*◌, ◌<◌, ◌≤◌, List, [], ◌∷◌, map, Bool, true, false, ◌&&◌, ◌||◌, slice_index_or}
 use Rattle.field.specs.Number.{number}
 use Rattle.field.specs.First.{differ, when}
 use Rattle.address.specs.Generic.{generic_address_at}
@@ -76,7 +76,7 @@ blocks = Pm1aEvent ∷ Pm1bEvent ∷ Pm1aControl ∷ Pm1bControl ∷ Pm2Control 
 -- Where the block of a number lies: there is none behind the list.
 unfoldable pub nth_register_block : List ℕ → ℕ → Generic
 nth_register_block table n =
-    when (lacks table 116) (Refused 11) (get_or (map (λ (which : RegisterBlock). block table (place_of which)) blocks) n (Refused 13))
+    when (lacks table 116) (Refused 11) (slice_index_or (map (λ (which : RegisterBlock). block table (place_of which)) blocks) n (Refused 13))
 
 -- What every place keeps to: its narrow address and its length byte stand in the fixed part.
 pub record Inside (p : Place) : Type 0 where

@@ -1,5 +1,5 @@
 -- What the machine is for (ACPI 6.5, section 5.2.9.1, "Preferred PM Profile System Types").
-use Rattle.std.specs.Prelude.{ℕ, List, [], ◌∷◌, get_or}
+use Rattle.std.specs.Prelude.{ℕ, List, [], ◌∷◌, slice_index_or}
 use Rattle.field.specs.Number.{number}
 use Rattle.field.specs.First.{when}
 use Rattle.fadt.specs.Room.{lacks}
@@ -24,7 +24,7 @@ profiles =
 
 -- the profile of the number n: numbers behind the list are reserved
 unfoldable pub profile_of : ℕ → PowerProfile
-profile_of n = get_or profiles n (Reserved n)
+profile_of n = slice_index_or profiles n (Reserved n)
 
 -- Preferred_PM_Profile.
 unfoldable pub power_profile : List ℕ → Preferred

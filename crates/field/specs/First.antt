@@ -2,7 +2,7 @@
 -- number each, ascending: the answer is the number of the first test that holds, which is then the smallest that applies.
 use Rattle.std.specs.Prelude.{◌≡◌, ℕ, ◌≤◌, Bool, true, false, not, List, [], ◌∷◌, ◌==◌, nat_lt}
 
--- The tests of a refusal. They say what `ltb` and `eqb` say, and stay shut, so that laws can be found by their shape.
+-- The tests of a refusal. They say what `nat_lt` and `==` say, and stay shut, so that laws can be found by their shape.
 unfoldable pub less : ℕ → ℕ → Bool
 less a b = nat_lt a b
 

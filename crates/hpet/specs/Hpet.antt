@@ -1,5 +1,5 @@
 -- The HPET table (IA-PC HPET Specification 1.0a, section 3.2.4, Table 3), 56 bytes.
-use Rattle.std.specs.Prelude.{ℕ, ◌+◌, ◌-◌, ◌/◌, ◌%◌, ◌^◌, List, [], ◌∷◌, eqb, length, get_or}
+use Rattle.std.specs.Prelude.{ℕ, ◌+◌, ◌-◌, ◌/◌, ◌%◌, ◌^◌, List, [], ◌∷◌, ◌==◌, length, slice_index_or}
 use Rattle.field.specs.Number.{number}
 use Rattle.field.specs.First.{less, differ, when}
 use Rattle.address.specs.Space.{space_number}
@@ -19,7 +19,7 @@ abbrev pub protections : List PageProtection
 protections = None ∷ Protected4K ∷ Protected64K ∷ []
 
 unfoldable pub protection_of : ℕ → PageProtection
-protection_of n = when (less n (length protections)) (get_or protections n None) Other
+protection_of n = when (less n (length protections)) (slice_index_or protections n None) Other
 
 -- The fields: Event Timer Block ID at 36, the base address' Address at 44 (its structure begins at 40), HPET Number at 52, Main
 -- Counter Minimum clock_tick at 53, Page Protection And OEM Attribute at 55. The block id holds the number of comparators less one.
@@ -30,8 +30,8 @@ info_of table =
       event_timer_block_id = id;
       hardware_rev = bits id 7 0;
       num_comparators = bits id 12 8 + 1;
-      main_counter_is_64bits = eqb (bits id 13 13) 1;
-      legacy_irq_capable = eqb (bits id 15 15) 1;
+      main_counter_is_64bits = (bits id 13 13) == 1;
+      legacy_irq_capable = (bits id 15 15) == 1;
       pci_vendor_id = bits id 31 16;
       base_address = number table 44 8;
       hpet_number = number table 52 1;

@@ -1,6 +1,6 @@
 -- The fixed part of the MADT, 44 bytes (ACPI 6.5, section 5.2.12): the header, the local interrupt controller's address at 36
 -- and the flags at 40.
-use Rattle.std.specs.Prelude.{ℕ, ◌%◌, List, Bool, ◌||◌, length, eqb}
+use Rattle.std.specs.Prelude.{ℕ, ◌%◌, List, Bool, ◌||◌, length, ◌==◌}
 use Rattle.field.specs.Number.{number}
 use Rattle.field.specs.First.{when, less, differ}
 use Rattle.madt.specs.declared.Madt.{Madt}
@@ -17,7 +17,7 @@ madt_of s =
     record {
       local_apic_address = number s 36 4;
       flags = number s 40 4;
-      supports_8259 = eqb (number s 40 4 % 2) 1;
+      supports_8259 = (number s 40 4 % 2) == 1;
     }
 
 unfoldable pub fixed_of : List ℕ → Fixed

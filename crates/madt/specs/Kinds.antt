@@ -1,6 +1,6 @@
 -- The kinds of entries, which the specification calls interrupt controller structure types (ACPI 6.5, section 5.2.12). What a
 -- kind is, and which lengths it may have, is said here and nowhere else.
-use Rattle.std.specs.Prelude.{ℕ, List, [], ◌∷◌, get_or}
+use Rattle.std.specs.Prelude.{ℕ, List, [], ◌∷◌, slice_index_or}
 use Rattle.madt.specs.declared.Kind.{Kind}
 use Rattle.madt.specs.declared.Kind.TheVariants.{
   LocalApic,
@@ -40,7 +40,7 @@ kinds =
 
 -- the kind that a number is: from 17 up they are reserved
 unfoldable pub kind_of : ℕ → Kind
-kind_of number = get_or kinds number Reserved
+kind_of number = slice_index_or kinds number Reserved
 
 -- The least length of an entry of each kind (sections 5.2.12.2 to 5.2.12.19). No length byte says 256, so an entry of another
 -- interrupt model is never long enough. A reserved kind needs the two bytes that every entry begins with.

@@ -1,6 +1,6 @@
 -- The configuration space of PCI functions in memory (PCI Firmware Specification 3.x, section 4.1.2, and PCI Express Base
 -- Specification, section 7.2.2): 4,096 bytes for a function, 8 functions for a device, 32 devices for a bus, so 2 ^ 20 bytes for a bus.
-use Rattle.std.specs.Prelude.{ℕ, ◌+◌, ◌-◌, ◌*◌, ◌^◌, ◌≤◌, ◌≡◌, List, [], ◌∷◌, Bool, true, false, ◌&&◌, eqb, leb}
+use Rattle.std.specs.Prelude.{ℕ, ◌+◌, ◌-◌, ◌*◌, ◌^◌, ◌≤◌, ◌≡◌, List, [], ◌∷◌, Bool, true, false, ◌&&◌, ◌==◌, nat_le}
 use Rattle.field.specs.First.{less, when}
 use Rattle.mcfg.specs.Entries.{wrong_length, entries}
 use Rattle.mcfg.specs.declared.McfgEntry.{McfgEntry}
@@ -11,7 +11,7 @@ use Rattle.mcfg.specs.declared.PhysicalAddress.TheVariants.{Address, Refused}
 
 -- the entry has the segment group, and the bus among its buses
 abbrev pub includes : ℕ → ℕ → McfgEntry → Bool
-includes segment bus e = eqb e.pci_segment_group segment && leb e.bus_number_start bus && leb bus e.bus_number_end
+includes segment bus e = (e.pci_segment_group == segment) && nat_le e.bus_number_start bus && nat_le bus e.bus_number_end
 
 -- the first entry that includes the bus
 unfoldable pub window_of : ℕ → ℕ → List McfgEntry → Window

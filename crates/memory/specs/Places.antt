@@ -1,5 +1,5 @@
 -- Where a physical address stands in the slice (docs/TABLES.md, "Memory").
-use Rattle.std.specs.Prelude.{ℕ, ◌+◌, ◌-◌, ◌≤◌, ◌<◌, min, ◌≡◌, ◌⊎◌, List, [], ◌∷◌, Bool, ◌&&◌, leb, ltb}
+use Rattle.std.specs.Prelude.{ℕ, ◌+◌, ◌-◌, ◌≤◌, ◌<◌, min, ◌≡◌, ◌⊎◌, List, [], ◌∷◌, Bool, ◌&&◌, nat_le, nat_lt}
 use Rattle.field.specs.First.{when}
 use Rattle.field.specs.Part.{part}
 use Rattle.memory.specs.Ranges.{ranges_of}
@@ -9,7 +9,7 @@ use Rattle.memory.specs.declared.Place.TheVariants.{At, Unmapped}
 
 -- the range has the byte at the physical address p
 unfoldable pub holds : Range → ℕ → Bool
-holds r p = leb r.start p && ltb (p - r.start) r.len
+holds r p = nat_le r.start p && nat_lt (p - r.start) r.len
 
 -- its offset in the slice, and how many bytes the range has from there on
 unfoldable pub place_in : Range → ℕ → Place

@@ -1,5 +1,5 @@
 -- The list of ranges (docs/TABLES.md, "Memory"): which lists are right.
-use Rattle.std.specs.Prelude.{ℕ, ◌+◌, ◌/◌, ◌%◌, ◌^◌, List, [], ◌∷◌, Bool, true, ◌&&◌, leb, ltb, eqb, length}
+use Rattle.std.specs.Prelude.{ℕ, ◌+◌, ◌/◌, ◌%◌, ◌^◌, List, [], ◌∷◌, Bool, true, ◌&&◌, nat_le, nat_lt, ◌==◌, length}
 use Rattle.memory.specs.declared.Range.{Range}
 
 -- the list is flat, three numbers to a range
@@ -15,7 +15,7 @@ most_ranges = 64
 
 -- a range lies inside the slice, which has size bytes, and ends at 2^64 or below
 unfoldable pub inside : ℕ → Range → Bool
-inside size r = leb (r.offset + r.len) size && leb (r.start + r.len) (2 ^ 64)
+inside size r = nat_le (r.offset + r.len) size && nat_le (r.start + r.len) (2 ^ 64)
 
 unfoldable pub all_inside : ℕ → List Range → Bool
 all_inside size [] = true
@@ -23,7 +23,7 @@ all_inside size (r ∷ rs) = inside size r && all_inside size rs
 
 -- s starts above the start of r, and not before the end of r
 unfoldable pub follows : Range → Range → Bool
-follows r s = ltb r.start s.start && leb (r.start + r.len) s.start
+follows r s = nat_lt r.start s.start && nat_le (r.start + r.len) s.start
 
 -- ascending by start, no two overlapping
 unfoldable pub ordered : List Range → Bool
@@ -34,7 +34,7 @@ ordered (r ∷ s ∷ rest) = follows r s && ordered (s ∷ rest)
 -- the list is right for a slice of size bytes
 unfoldable pub right : ℕ → List ℕ → Bool
 right size words =
-    eqb (length words % 3) 0
-    && leb (length words / 3) most_ranges
+    (length words % 3) == 0
+    && nat_le (length words / 3) most_ranges
     && all_inside size (ranges_of words)
     && ordered (ranges_of words)

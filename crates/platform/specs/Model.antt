@@ -1,5 +1,5 @@
 -- The interrupt model that the entries of the MADT describe, and the numbers that refuse it.
-use Rattle.std.specs.Prelude.{ℕ, ◌<◌, ◌≡◌, List, [], ◌∷◌, Bool, false, ◌&&◌, ◌||◌, eqb, length}
+use Rattle.std.specs.Prelude.{ℕ, ◌<◌, ◌≡◌, List, [], ◌∷◌, Bool, false, ◌&&◌, ◌||◌, ◌==◌, length}
 use Rattle.field.specs.First.{when, differ, Reason, first_number, Ascending}
 use Rattle.field.specs.First.Reason.{◌gives◌}
 use Rattle.madt.specs.Fields.{value, address_override}
@@ -91,7 +91,7 @@ UnknownIsEmpty = (s : List ℕ) (m : Madt) → (model_with s m).known ≡ false 
 
 -- a known model without a processor
 abbrev pub lacks_processor : Model → Bool
-lacks_processor model = model.known && eqb model.processors 0
+lacks_processor model = model.known && (model.processors == 0)
 
 -- why there is no model
 unfoldable pub refusals : List ℕ → List Reason

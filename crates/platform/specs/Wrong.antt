@@ -1,5 +1,5 @@
 -- What is wrong in an entry that is long enough: 16 (docs/TABLES.md, section 11).
-use Rattle.std.specs.Prelude.{ℕ, ◌/◌, ◌%◌, List, Bool, false, not, ◌||◌, eqb, ltb}
+use Rattle.std.specs.Prelude.{ℕ, ◌/◌, ◌%◌, List, Bool, false, not, ◌||◌, ◌==◌, nat_lt}
 use Rattle.madt.specs.Fields.{
   value,
   override_bus,
@@ -25,15 +25,15 @@ use Rattle.madt.specs.declared.Kind.TheVariants.{
 
 -- MPS INTI flags (5.2.12.5): polarity in bits 0 and 1, trigger in bits 2 and 3; the value 2 is reserved in both
 unfoldable pub wrong_flags : ℕ → Bool
-wrong_flags flags = eqb (flags % 4) 2 || eqb (flags / 4 % 4) 2
+wrong_flags flags = ((flags % 4) == 2) || ((flags / 4 % 4) == 2)
 
 -- an override is of the ISA bus, 0 (5.2.12.5)
 unfoldable pub wrong_bus : ℕ → Bool
-wrong_bus bus = not (eqb bus 0)
+wrong_bus bus = not (bus == 0)
 
 -- a local APIC has the interrupt inputs 0 and 1 (5.2.12.7)
 unfoldable pub wrong_line : ℕ → Bool
-wrong_line line = ltb 1 line
+wrong_line line = nat_lt 1 line
 
 -- an entry of this kind at `at` is wrong
 abbrev pub wrong_at : List ℕ → ℕ → Kind → Bool

@@ -1,7 +1,7 @@
 // The root pointer: whether one stands at an address and what it says, and the search for it.
 #![tactic(auto)]
 
-ghost use Rattle.std.specs.Prelude.{◌≡◌, true, ◌+◌, ◌-◌, ◌*◌, ◌/◌, ◌^◌, ◌≤◌, min, eqb, length, drop};
+ghost use Rattle.std.specs.Prelude.{◌≡◌, true, ◌+◌, ◌-◌, ◌*◌, ◌/◌, ◌^◌, ◌≤◌, min, ◌==◌, length, drop};
 ghost use Rattle.field.specs.Choice.{nth_valid};
 ghost use Rattle.memory.specs.Ranges.{right};
 ghost use Rattle.memory.specs.Places.{view_of};
@@ -174,7 +174,7 @@ pub fn root_pointer_at(image: &[u8], ranges: &[u64], address: u64) -> RootPointe
 // Whether a valid root pointer stands at an offset of the view. Nearly everywhere the signature alone says no.
 fn is_valid(view: &[u8], at: usize) -> bool
     requires { at + 20 ≤ length view.now }
-    ensures { result ≡ eqb (pointer_refusal (drop at view.now)) 0 }
+    ensures { result ≡ ((pointer_refusal (drop at view.now)) == 0) }
 {
     if field::u64_at(view, at) != RSD_PTR {
         return false;
