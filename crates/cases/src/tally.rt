@@ -1,7 +1,7 @@
 // How many questions were asked and how many answers differed. The tallies of question n stand at 2 n and at 2 n + 1, and those at
 // 0 and 1 are the sums.
 use crate::record;
-use libc::STDOUT_FILENO;
+use std::io;
 
 // So many differences are shown; the others are counted.
 const SHOWN: u64 = 10;
@@ -27,66 +27,61 @@ fn tally(tallies: &[u64], i: usize) -> u64 {
     tallies[i]
 }
 
-fn show(at: usize, q: record::Question, got: u32) {
-    io::write_all(STDOUT_FILENO, b"record at ");
-    io::print_decimal(STDOUT_FILENO, at as u64);
-    io::write_all(STDOUT_FILENO, b", question ");
-    io::print_decimal(STDOUT_FILENO, q.id as u64);
-    io::write_all(STDOUT_FILENO, b": wanted ");
-    io::print_decimal(STDOUT_FILENO, q.answer as u64);
-    io::write_all(STDOUT_FILENO, b", got ");
-    io::print_decimal(STDOUT_FILENO, got as u64);
+fn show(rt: &impl Print, at: usize, q: record::Question, got: u32) -> io::Result<()> {
+    print!(rt;
+        "record at {at}, question {}: wanted {}, got {got}",
+        q.id, q.answer
+    )?;
     if q.answer == got {
-        io::write_all(STDOUT_FILENO, b" with other values");
+        print!(rt; " with other values")?;
     }
-    io::write_all(STDOUT_FILENO, b"\n");
+    println!(rt)
 }
 
-// Counts a question that was asked.
-pub fn note(tallies: &mut [u64], at: usize, q: record::Question, got: u32, same: bool) {
+// Counts a question that was asked. It is counted also where the line that shows it can't be written.
+pub fn note(
+    rt: &impl Print,
+    tallies: &mut [u64],
+    at: usize,
+    q: record::Question,
+    got: u32,
+    same: bool,
+) -> io::Result<()> {
     let i = q.id as usize * 2;
     count(tallies, 0);
     count(tallies, i);
     if same {
-        return;
+        return Ok(());
     }
-    if tally(tallies, 1) < SHOWN {
-        show(at, q, got);
-    }
+    let differed_before = tally(tallies, 1);
     count(tallies, 1);
     count(tallies, i + 1);
+    if differed_before < SHOWN {
+        show(rt, at, q, got)?;
+    }
+    Ok(())
 }
 
-pub fn print_question(tallies: &[u64], id: u32, name: &[u8]) {
+pub fn print_question(rt: &impl Print, tallies: &[u64], id: u32, name: &[u8]) -> io::Result<()> {
     let i = id as usize * 2;
-    io::write_all(STDOUT_FILENO, b"question ");
-    io::print_decimal(STDOUT_FILENO, id as u64);
-    io::write_all(STDOUT_FILENO, b", ");
-    io::write_all(STDOUT_FILENO, name);
-    io::write_all(STDOUT_FILENO, b": ");
-    io::print_decimal(STDOUT_FILENO, tally(tallies, i));
-    io::write_all(STDOUT_FILENO, b" asked, ");
-    io::print_decimal(STDOUT_FILENO, tally(tallies, i + 1));
-    io::write_all(STDOUT_FILENO, b" differ\n");
+    print!(rt; "question {id}, ")?;
+    rt.write_all(name)?;
+    println!(rt;
+        ": {} asked, {} differ",
+        tally(tallies, i),
+        tally(tallies, i + 1)
+    )
 }
 
-pub fn print_sums(tallies: &[u64]) {
-    io::print_decimal(STDOUT_FILENO, tally(tallies, 0));
-    io::write_all(STDOUT_FILENO, b" cases, ");
-    io::print_decimal(STDOUT_FILENO, tally(tallies, 1));
-    io::write_all(STDOUT_FILENO, b" differ\n");
+pub fn print_sums(rt: &impl Print, tallies: &[u64]) -> io::Result<()> {
+    println!(rt; "{} cases, {} differ", tally(tallies, 0), tally(tallies, 1))
 }
 
 // Writes that the answers of the second file come next.
-pub fn print_heading() {
-    io::write_all(
-        STDOUT_FILENO,
-        b"answers of the comparison with the crate:\n",
-    );
+pub fn print_heading(rt: &impl Print) -> io::Result<()> {
+    println!(rt; "answers of the comparison with the crate:")
 }
 
-pub fn print_malformed(at: usize) {
-    io::write_all(STDOUT_FILENO, b"no record can be read at ");
-    io::print_decimal(STDOUT_FILENO, at as u64);
-    io::write_all(STDOUT_FILENO, b"\n");
+pub fn print_malformed(rt: &impl Print, at: usize) -> io::Result<()> {
+    println!(rt; "no record can be read at {at}")
 }
