@@ -1,12 +1,14 @@
 // Asks field::is_text of every string of up to three bytes and of chosen ones of four, six and eight, and writes a line for each
 // class. tests/reference/utf8.py writes the same lines with Python's own decoder, so the two have to agree on every string.
+#![tactic(auto)]
+
 ghost use Rattle.std.specs.Prelude.{◌≡◌, ◌≤◌, ◌<◌, length};
 ghost use Rattle.utf8_cases.specs.Count.{Bounded, after_answer};
 
-use libc::STDOUT_FILENO;
+use std::io;
 
 // What a line says of a class: how many strings it took, how many were well formed, and a checksum of the answers in order.
-#[derive(Drop)]
+#[derive(Clone, Copy)]
 struct Tally {
     taken: u64,
     well_formed: u64,
@@ -107,7 +109,8 @@ fn is_start_text(bytes: &[u8], n: usize) -> bool
 
 // A string of n bytes has a piece at an offset. What does not fit is cut off.
 fn is_text_around(n: usize, piece: usize, offset: u32) -> bool
-    requires { (n ≤ 8) × (piece < 13) }
+    requires at_most_eight { n ≤ 8 }
+    requires known { piece < 13 }
 {
     let eight = [
         byte_around(piece, offset, 0),
@@ -123,7 +126,7 @@ fn is_text_around(n: usize, piece: usize, offset: u32) -> bool
 }
 
 // The classes are named by how many bytes their strings have.
-#[derive(Drop)]
+#[derive(Clone, Copy)]
 enum Class {
     Empty,
     One,
@@ -165,24 +168,20 @@ fn tally_of(class: Class, count: u32) -> Tally
 }
 
 // Writes the line of a class that has so many strings.
-fn report(name: &[u8], class: Class, count: u32) {
+fn report(rt: &impl Print, name: &str, class: Class, count: u32) -> io::Result<()> {
     let t = tally_of(class, count);
-    io::write_all(STDOUT_FILENO, name);
-    io::write_all(STDOUT_FILENO, b": ");
-    io::print_decimal(STDOUT_FILENO, t.taken);
-    io::write_all(STDOUT_FILENO, b" taken, ");
-    io::print_decimal(STDOUT_FILENO, t.well_formed);
-    io::write_all(STDOUT_FILENO, b" well formed, checksum ");
-    io::print_decimal(STDOUT_FILENO, t.checksum);
-    io::write_all(STDOUT_FILENO, b"\n");
+    println!(rt;
+        "{name}: {} taken, {} well formed, checksum {}",
+        t.taken, t.well_formed, t.checksum
+    )
 }
 
-fn main() {
-    report(b"length 0", Class::Empty, 1);
-    report(b"length 1", Class::One, 256);
-    report(b"length 2", Class::Two, 256 * 256);
-    report(b"length 3", Class::Three, 256 * 256 * 256);
-    report(b"four bytes", Class::Four, 32 * 10 * 10 * 10);
-    report(b"six bytes", Class::Six, 13 * 6);
-    report(b"eight bytes", Class::Eight, 13 * 8);
+fn main(rt: HostRuntime) -> io::Result<()> {
+    report(&rt, "length 0", Class::Empty, 1)?;
+    report(&rt, "length 1", Class::One, 256)?;
+    report(&rt, "length 2", Class::Two, 256 * 256)?;
+    report(&rt, "length 3", Class::Three, 256 * 256 * 256)?;
+    report(&rt, "four bytes", Class::Four, 32 * 10 * 10 * 10)?;
+    report(&rt, "six bytes", Class::Six, 13 * 6)?;
+    report(&rt, "eight bytes", Class::Eight, 13 * 8)
 }
