@@ -2,7 +2,7 @@
 // that is empty unless the number is 0.
 use crate::record;
 
-#[derive(Drop)]
+#[derive(Clone, Copy)]
 pub struct Answer {
     pub number: u32,
     pub count: usize,
@@ -10,7 +10,7 @@ pub struct Answer {
 }
 
 // What a question is asked about. A question that has fewer arguments leaves the last ones alone.
-#[derive(Drop)]
+#[derive(Clone, Copy)]
 pub struct Arguments {
     pub first: u64,
     pub second: u64,

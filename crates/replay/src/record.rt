@@ -3,7 +3,7 @@
 // tests where it ends, so a file that is cut off is noticed there.
 
 // A list of numbers of eight bytes: where the first one stands, how many there are, and where the list ends.
-#[derive(Drop)]
+#[derive(Clone, Copy)]
 pub struct List {
     pub at: usize,
     pub count: usize,
@@ -11,7 +11,7 @@ pub struct List {
 }
 
 // An image: its ranges, where its bytes stand, how many there are, and where the next record begins.
-#[derive(Drop)]
+#[derive(Clone, Copy)]
 pub struct Image {
     pub ranges: List,
     pub at: usize,
@@ -20,7 +20,7 @@ pub struct Image {
 }
 
 // A question: its number, what is changed in the image for it, what it is asked about, and the answer that is wanted.
-#[derive(Drop)]
+#[derive(Clone, Copy)]
 pub struct Question {
     pub id: u32,
     pub patches: List,

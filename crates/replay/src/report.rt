@@ -2,7 +2,7 @@
 ghost use Rattle.std.specs.Prelude.{◌≡◌, length};
 
 use crate::record;
-use libc::STDOUT_FILENO;
+use std::io;
 
 // So many differences are shown; the others are counted.
 const SHOWN: u64 = 10;
@@ -35,84 +35,82 @@ fn tally(tallies: &[u64], i: usize) -> u64 {
     tallies[i]
 }
 
-// Writes words and a number.
-fn say(words: &[u8], n: u64) {
-    io::write_all(STDOUT_FILENO, words);
-    io::print_decimal(STDOUT_FILENO, n);
-}
-
 // Writes a line about an answer that differs.
-fn show(at: usize, q: record::Question, got: u32) {
-    say(b"record at ", at as u64);
-    say(b", question ", q.id as u64);
-    say(b": wanted ", q.answer as u64);
-    say(b", got ", got as u64);
+fn show(rt: &impl Print, at: usize, q: record::Question, got: u32) -> io::Result<()> {
+    print!(rt;
+        "record at {at}, question {}: wanted {}, got {got}",
+        q.id, q.answer
+    )?;
     if q.answer == got {
-        io::write_all(STDOUT_FILENO, b" with other values");
+        print!(rt; " with other values")?;
     }
-    io::write_all(STDOUT_FILENO, b"\n");
+    println!(rt)
 }
 
-// Counts a question, and shows it if it is one of the first whose answer differs.
-pub fn note(tallies: &mut [u64], at: usize, q: record::Question, got: u32, same: bool) {
+// Counts a question, and shows it if it is one of the first whose answer differs. It is counted also where the line can't be written.
+pub fn note(
+    rt: &impl Print,
+    tallies: &mut [u64],
+    at: usize,
+    q: record::Question,
+    got: u32,
+    same: bool,
+) -> io::Result<()> {
     let i = q.id as usize * 2;
     count(tallies, 0);
     count(tallies, i);
     if same {
-        return;
+        return Ok(());
     }
-    if tally(tallies, 1) < SHOWN {
-        show(at, q, got);
-    }
+    let differed_before = tally(tallies, 1);
     count(tallies, 1);
     count(tallies, i + 1);
+    if differed_before < SHOWN {
+        show(rt, at, q, got)?;
+    }
+    Ok(())
 }
 
-fn print_question(tallies: &[u64], i: usize, name: &[u8]) {
-    io::write_all(STDOUT_FILENO, name);
-    say(b": ", tally(tallies, i));
-    say(b" asked, ", tally(tallies, record::past(i, 1)));
-    io::write_all(STDOUT_FILENO, b" differ\n");
+fn print_question(rt: &impl Print, tallies: &[u64], i: usize, name: &str) -> io::Result<()> {
+    println!(rt;
+        "{name}: {} asked, {} differ",
+        tally(tallies, i),
+        tally(tallies, record::past(i, 1))
+    )
 }
 
-fn print_total(tallies: &[u64]) {
-    say(b"", tally(tallies, 0));
-    say(b" cases, ", tally(tallies, 1));
-    io::write_all(STDOUT_FILENO, b" differ\n");
+fn print_total(rt: &impl Print, tallies: &[u64]) -> io::Result<()> {
+    println!(rt; "{} cases, {} differ", tally(tallies, 0), tally(tallies, 1))
 }
 
-fn print_tallies(tallies: &[u64]) {
-    print_question(tallies, 2, b"1 is_right");
-    print_question(tallies, 4, b"2 root_pointer_at");
-    print_question(tallies, 6, b"3 search_for_on_bios");
-    print_question(tallies, 8, b"4 root_table");
-    print_question(tallies, 10, b"5 root_entry");
-    print_question(tallies, 12, b"6 find_table");
-    print_question(tallies, 14, b"7 nth_table");
-    print_question(tallies, 16, b"8 header");
-    print_question(tallies, 18, b"9 table_at");
-    print_question(tallies, 20, b"10 table_at of any signature");
-    print_total(tallies);
+fn print_tallies(rt: &impl Print, tallies: &[u64]) -> io::Result<()> {
+    print_question(rt, tallies, 2, "1 is_right")?;
+    print_question(rt, tallies, 4, "2 root_pointer_at")?;
+    print_question(rt, tallies, 6, "3 search_for_on_bios")?;
+    print_question(rt, tallies, 8, "4 root_table")?;
+    print_question(rt, tallies, 10, "5 root_entry")?;
+    print_question(rt, tallies, 12, "6 find_table")?;
+    print_question(rt, tallies, 14, "7 nth_table")?;
+    print_question(rt, tallies, 16, "8 header")?;
+    print_question(rt, tallies, 18, "9 table_at")?;
+    print_question(rt, tallies, 20, "10 table_at of any signature")?;
+    print_total(rt, tallies)
 }
 
-fn print_malformed(at: usize) {
-    say(b"no record can be read at ", at as u64);
-    io::write_all(STDOUT_FILENO, b"\n");
+fn print_malformed(rt: &impl Print, at: usize) -> io::Result<()> {
+    println!(rt; "no record can be read at {at}")
 }
 
 // Writes that the answers of the second file come next.
-pub fn print_heading() {
-    io::write_all(
-        STDOUT_FILENO,
-        b"answers of the comparison with the crate:\n",
-    );
+pub fn print_heading(rt: &impl Print) -> io::Result<()> {
+    println!(rt; "answers of the comparison with the crate:")
 }
 
 // Writes the tallies, or where the file can't be read.
-pub fn print_result(tallies: &[u64], at: usize, whole: bool) {
+pub fn print_result(rt: &impl Print, tallies: &[u64], at: usize, whole: bool) -> io::Result<()> {
     if whole {
-        print_tallies(tallies);
+        print_tallies(rt, tallies)
     } else {
-        print_malformed(at);
+        print_malformed(rt, at)
     }
 }
