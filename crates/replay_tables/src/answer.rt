@@ -3,7 +3,7 @@
 use address::Generic;
 use cases::record;
 
-#[derive(Drop)]
+#[derive(Clone, Copy)]
 pub struct Answer {
     pub number: u32,
     pub count: usize,
@@ -11,7 +11,7 @@ pub struct Answer {
 }
 
 // What a question is asked about. A question that has fewer arguments leaves the last ones alone.
-#[derive(Drop)]
+#[derive(Clone, Copy)]
 pub struct Arguments {
     pub first: u64,
     pub second: u64,

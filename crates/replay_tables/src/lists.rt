@@ -108,7 +108,7 @@ fn all_stored(
 }
 
 // The answer's number, and whether the lent tables are what the stored answer says.
-#[derive(Drop)]
+#[derive(Clone, Copy)]
 pub struct Filled {
     pub number: u32,
     pub same: bool,

@@ -2,15 +2,19 @@
 // tests/tables/make_cases.py writes the first: the values come from a reading of docs/TABLES.md in Python that was written apart from
 // the definitions here and, for the tables in tests/tables/fixtures, from what the disassembler iasl prints of them. The answers of
 // the second are those of the comparison with the crate acpi 5.2.0; docs/ORACLE.md says how it is written.
+#![tactic(auto)]
+
 mod answer;
 mod lists;
 
 ghost use Rattle.std.specs.Prelude.{◌≡◌, ◌≤◌, length};
 
 use cases::{record, tally};
+use std::io::Read;
+use std::{fs, io};
 
 // Where the next record begins, and where the current table does.
-#[derive(Drop)]
+#[derive(Clone, Copy)]
 struct Place {
     at: usize,
     image: usize,
@@ -18,6 +22,7 @@ struct Place {
 
 // Asks for the lists, with lent tables of the lengths that the arguments give. False where one of them is too long.
 fn ask_lists(
+    rt: &impl Print,
     file: &[u8],
     table: &[u8],
     processors: &mut [u32],
@@ -28,7 +33,7 @@ fn ask_lists(
     tallies: &mut [u64],
     at: usize,
     q: record::Question,
-) -> bool {
+) -> io::Result<bool> {
     let arguments = q.arguments;
     let p = record::number_in(file, arguments, 0) as usize;
     let i = record::number_in(file, arguments, 1) as usize;
@@ -36,19 +41,19 @@ fn ask_lists(
     let n = record::number_in(file, arguments, 3) as usize;
     let l = record::number_in(file, arguments, 4) as usize;
     if processors.len() < p {
-        return false;
+        return Ok(false);
     }
     if io_apics.len() < i {
-        return false;
+        return Ok(false);
     }
     if overrides.len() < o {
-        return false;
+        return Ok(false);
     }
     if nmi_sources.len() < n {
-        return false;
+        return Ok(false);
     }
     if nmi_lines.len() < l {
-        return false;
+        return Ok(false);
     }
     let filled = lists::ask(
         file,
@@ -60,13 +65,14 @@ fn ask_lists(
         &mut nmi_sources[..n],
         &mut nmi_lines[..l],
     );
-    tally::note(tallies, at, q, filled.number, filled.same);
-    true
+    tally::note(rt, tallies, at, q, filled.number, filled.same)?;
+    Ok(true)
 }
 
 // Asks a question of a table that is laid out anew for it, so that no patch outlasts its question. False where the patches are not
 // for this table.
 fn ask_laid_out(
+    rt: &impl Print,
     file: &[u8],
     table: &mut [u8],
     processors: &mut [u32],
@@ -78,14 +84,15 @@ fn ask_laid_out(
     at: usize,
     q: record::Question,
     m: record::Image,
-) -> bool {
+) -> io::Result<bool> {
     record::copy_bytes(file, m.at, table);
     let patches = q.patches;
     if !record::patch(file, patches, table) {
-        return false;
+        return Ok(false);
     }
     if q.id == 53 {
         return ask_lists(
+            rt,
             file,
             table,
             processors,
@@ -100,12 +107,13 @@ fn ask_laid_out(
     }
     let arguments = q.arguments;
     let a = answer::ask(table, q.id, answer::arguments_in(file, arguments));
-    tally::note(tallies, at, q, a.number, answer::is_stored(file, q, a));
-    true
+    tally::note(rt, tallies, at, q, a.number, answer::is_stored(file, q, a))?;
+    Ok(true)
 }
 
 // The same with a buffer that has room for more.
 fn ask_in(
+    rt: &impl Print,
     file: &[u8],
     table: &mut [u8],
     processors: &mut [u32],
@@ -117,11 +125,12 @@ fn ask_in(
     at: usize,
     q: record::Question,
     m: record::Image,
-) -> bool
+) -> io::Result<bool>
     requires { m.size ≤ length table.old }
 {
     let size = m.size;
     ask_laid_out(
+        rt,
         file,
         &mut table[..size],
         processors,
@@ -138,6 +147,7 @@ fn ask_in(
 
 // Takes a question. A record that can't be read leaves the place as it is, here and below.
 fn take_question(
+    rt: &impl Print,
     file: &[u8],
     table: &mut [u8],
     processors: &mut [u32],
@@ -147,22 +157,23 @@ fn take_question(
     nmi_lines: &mut [u32],
     tallies: &mut [u64],
     p: Place,
-) -> Place {
+) -> io::Result<Place> {
     let q = record::question_at(file, p.at);
     if q.arguments.count != answer::argument_count(q.id) {
-        return p;
+        return Ok(p);
     }
     if file.len() < q.values.end {
-        return p;
+        return Ok(p);
     }
     if record::u32_in(file, p.image) != 1 {
-        return p;
+        return Ok(p);
     }
     let m = record::image_at(file, p.image);
     if table.len() < m.size {
-        return p;
+        return Ok(p);
     }
     if !ask_in(
+        rt,
         file,
         table,
         processors,
@@ -174,13 +185,13 @@ fn take_question(
         p.at,
         q,
         m,
-    ) {
-        return p;
+    )? {
+        return Ok(p);
     }
-    Place {
+    Ok(Place {
         at: q.values.end,
         image: p.image,
-    }
+    })
 }
 
 fn take_image(file: &[u8], p: Place) -> Place {
@@ -195,6 +206,7 @@ fn take_image(file: &[u8], p: Place) -> Place {
 }
 
 fn take_record(
+    rt: &impl Print,
     file: &[u8],
     table: &mut [u8],
     processors: &mut [u32],
@@ -204,10 +216,11 @@ fn take_record(
     nmi_lines: &mut [u32],
     tallies: &mut [u64],
     p: Place,
-) -> Place {
+) -> io::Result<Place> {
     match record::u32_in(file, p.at) {
-        1 => take_image(file, p),
+        1 => Ok(take_image(file, p)),
         2 => take_question(
+            rt,
             file,
             table,
             processors,
@@ -218,12 +231,13 @@ fn take_record(
             tallies,
             p,
         ),
-        _ => p,
+        _ => Ok(p),
     }
 }
 
 // Takes the records in order, and answers where the first one stands that does not lead on: the end, or one that can't be read.
 fn replay(
+    rt: &impl Print,
     file: &[u8],
     table: &mut [u8],
     processors: &mut [u32],
@@ -232,10 +246,11 @@ fn replay(
     nmi_sources: &mut [u32],
     nmi_lines: &mut [u32],
     tallies: &mut [u64],
-) -> usize {
+) -> io::Result<usize> {
     let mut p = Place { at: 0, image: 0 };
     while p.at < file.len() {
         let next = take_record(
+            rt,
             file,
             table,
             processors,
@@ -245,13 +260,13 @@ fn replay(
             nmi_lines,
             tallies,
             p,
-        );
+        )?;
         if next.at <= p.at {
-            return p.at;
+            return Ok(p.at);
         }
         p = next;
     }
-    p.at
+    Ok(p.at)
 }
 
 // Whether the record of the end stands there, and nothing after it.
@@ -259,37 +274,30 @@ fn is_end(file: &[u8], at: usize) -> bool {
     (record::u32_in(file, at) == 0) & (record::past(at, 4) == file.len())
 }
 
-fn print_tallies(tallies: &[u64]) {
-    tally::print_question(tallies, 20, b"MCFG, number of entries");
-    tally::print_question(tallies, 21, b"MCFG, entry");
-    tally::print_question(tallies, 22, b"MCFG, configuration space of a function");
-    tally::print_question(tallies, 30, b"HPET");
-    tally::print_question(tallies, 40, b"FADT, register");
-    tally::print_question(tallies, 41, b"FADT, firmware control");
-    tally::print_question(tallies, 42, b"FADT, DSDT");
-    tally::print_question(tallies, 43, b"FADT, plain field");
-    tally::print_question(tallies, 44, b"FADT, flag");
-    tally::print_question(tallies, 50, b"MADT, fixed part");
-    tally::print_question(tallies, 51, b"MADT, entry");
-    tally::print_question(tallies, 52, b"interrupt model");
-    tally::print_question(tallies, 53, b"lists of the interrupt model");
-    tally::print_question(tallies, 54, b"mailbox");
-    tally::print_sums(tallies);
+fn print_tallies(rt: &impl Print, tallies: &[u64]) -> io::Result<()> {
+    tally::print_question(rt, tallies, 20, b"MCFG, number of entries")?;
+    tally::print_question(rt, tallies, 21, b"MCFG, entry")?;
+    tally::print_question(rt, tallies, 22, b"MCFG, configuration space of a function")?;
+    tally::print_question(rt, tallies, 30, b"HPET")?;
+    tally::print_question(rt, tallies, 40, b"FADT, register")?;
+    tally::print_question(rt, tallies, 41, b"FADT, firmware control")?;
+    tally::print_question(rt, tallies, 42, b"FADT, DSDT")?;
+    tally::print_question(rt, tallies, 43, b"FADT, plain field")?;
+    tally::print_question(rt, tallies, 44, b"FADT, flag")?;
+    tally::print_question(rt, tallies, 50, b"MADT, fixed part")?;
+    tally::print_question(rt, tallies, 51, b"MADT, entry")?;
+    tally::print_question(rt, tallies, 52, b"interrupt model")?;
+    tally::print_question(rt, tallies, 53, b"lists of the interrupt model")?;
+    tally::print_question(rt, tallies, 54, b"mailbox")?;
+    tally::print_sums(rt, tallies)
 }
 
-fn print_result(tallies: &[u64], at: usize, whole: bool) {
+fn print_result(rt: &impl Print, tallies: &[u64], at: usize, whole: bool) -> io::Result<()> {
     if whole {
-        print_tallies(tallies);
+        print_tallies(rt, tallies)
     } else {
-        tally::print_malformed(at);
+        tally::print_malformed(rt, at)
     }
-}
-
-// Room for more than a stored file has. A file that fills it up may be cut off, and then its end is missing.
-fn file_buffer() -> [u8; 2097152]
-    ensures { 2097152 ≡ length result }
-{
-    [0; 2097152]
 }
 
 // Room for a table of 4,096 processors.
@@ -307,7 +315,7 @@ fn list_buffer() -> [u32; 12304]
 }
 
 // There are two tallies for each question from 0 to 54.
-fn replay_file(file: &[u8]) {
+fn replay_file(rt: &impl Print, file: &[u8]) -> io::Result<()> {
     let mut table = table_buffer();
     let mut processors = list_buffer();
     let mut io_apics = list_buffer();
@@ -316,6 +324,7 @@ fn replay_file(file: &[u8]) {
     let mut nmi_lines = list_buffer();
     let mut tallies = [0u64; 110];
     let at = replay(
+        rt,
         file,
         &mut table,
         &mut processors,
@@ -324,28 +333,30 @@ fn replay_file(file: &[u8]) {
         &mut nmi_sources,
         &mut nmi_lines,
         &mut tallies,
-    );
-    print_result(&tallies, at, is_end(file, at));
+    )?;
+    print_result(rt, &tallies, at, is_end(file, at))
 }
 
-fn read_and_replay(fd: i32) {
-    let mut file = file_buffer();
-    let n = io::read_full(fd, &mut file);
-    replay_file(&file[..n]);
+fn read_and_replay(rt: &(impl Print + Alloc), mut file: impl Read + Drop) -> io::Result<()> {
+    let mut bytes = Vec::new(rt.alloc());
+    file.read_to_end(&mut bytes)?;
+    replay_file(rt, &bytes)
 }
 
 // Replays a file that was opened, or says that it could not be.
-fn replay_opened(fd: i32, name: &[u8]) {
-    if fd < 0 {
-        os::fail(name);
-        return;
+fn replay_opened(
+    rt: &(impl Print + Eprint + Alloc),
+    opened: io::Result<impl Read + Drop>,
+    name: &str,
+) -> io::Result<()> {
+    match opened {
+        Ok(file) => read_and_replay(rt, file),
+        Err(error) => eprintln!(rt; "{name}: {error}"),
     }
-    read_and_replay(fd);
-    libc::close(fd);
 }
 
-fn main() {
-    replay_opened(os::open_read(b"tables"), b"tables");
-    tally::print_heading();
-    replay_opened(os::open_read(b"oracle"), b"oracle");
+fn main(rt: HostRuntime) -> io::Result<()> {
+    replay_opened(&rt, fs::open(&rt, "tables"), "tables")?;
+    tally::print_heading(&rt)?;
+    replay_opened(&rt, fs::open(&rt, "oracle"), "oracle")
 }
