@@ -8,7 +8,7 @@ mod answer;
 mod record;
 mod report;
 
-ghost use Rattle.std.specs.Prelude.{◌≡◌, length};
+ghost use Rattle.std.specs.Prelude.{◌≡◌, ◌≤◌, length, IfOk};
 
 use std::io::Read;
 use std::{fs, io};
@@ -180,6 +180,13 @@ fn is_end(file: &[u8], at: usize) -> bool {
     (record::u32_in(file, at) == 0) & (record::past(at, 4) == file.len())
 }
 
+// Room for more than a stored file has. A file that fills it up may be cut off, and then its end is missing.
+fn file_buffer() -> [u8; 1048576]
+    ensures { 1048576 ≡ length result }
+{
+    [0; 1048576]
+}
+
 // Room for the largest image, which has an area of the search and the word at 40e.
 fn image_buffer() -> [u8; 131076]
     ensures { 131076 ≡ length result }
@@ -202,15 +209,30 @@ fn replay_file(rt: &impl Print, file: &[u8]) -> io::Result<()> {
     report::print_result(rt, &tallies, at, is_end(file, at))
 }
 
-fn read_and_replay(rt: &(impl Print + Alloc), mut file: impl Read + Drop) -> io::Result<()> {
-    let mut bytes = Vec::new(rt.alloc());
-    file.read_to_end(&mut bytes)?;
-    replay_file(rt, &bytes)
+// Reads until the buffer is full or the file ends, and answers how many bytes stand at the buffer's front.
+fn read_full(file: &mut impl Read, buffer: &mut [u8]) -> io::Result<usize>
+    ensures { IfOk result (λ n. n ≤ length buffer.new) }
+{
+    let mut done = 0;
+    for _ in 0..buffer.len() {
+        let n = file.read(&mut buffer[done..])?;
+        if n == 0 {
+            break;
+        }
+        done += n;
+    }
+    Ok(done)
+}
+
+fn read_and_replay(rt: &impl Print, mut file: impl Read + Drop) -> io::Result<()> {
+    let mut bytes = file_buffer();
+    let n = read_full(&mut file, &mut bytes)?;
+    replay_file(rt, &bytes[..n])
 }
 
 // Replays a file that was opened, or says that it could not be.
 fn replay_opened(
-    rt: &(impl Print + Eprint + Alloc),
+    rt: &(impl Print + Eprint),
     opened: io::Result<impl Read + Drop>,
     name: &str,
 ) -> io::Result<()> {

@@ -7,7 +7,7 @@
 mod answer;
 mod lists;
 
-ghost use Rattle.std.specs.Prelude.{◌≡◌, ◌≤◌, length};
+ghost use Rattle.std.specs.Prelude.{◌≡◌, ◌≤◌, length, IfOk};
 
 use cases::{record, tally};
 use std::io::Read;
@@ -300,6 +300,13 @@ fn print_result(rt: &impl Print, tallies: &[u64], at: usize, whole: bool) -> io:
     }
 }
 
+// Room for more than a stored file has. A file that fills it up may be cut off, and then its end is missing.
+fn file_buffer() -> [u8; 2097152]
+    ensures { 2097152 ≡ length result }
+{
+    [0; 2097152]
+}
+
 // Room for a table of 4,096 processors.
 fn table_buffer() -> [u8; 36864]
     ensures { 36864 ≡ length result }
@@ -337,15 +344,30 @@ fn replay_file(rt: &impl Print, file: &[u8]) -> io::Result<()> {
     print_result(rt, &tallies, at, is_end(file, at))
 }
 
-fn read_and_replay(rt: &(impl Print + Alloc), mut file: impl Read + Drop) -> io::Result<()> {
-    let mut bytes = Vec::new(rt.alloc());
-    file.read_to_end(&mut bytes)?;
-    replay_file(rt, &bytes)
+// Reads until the buffer is full or the file ends, and answers how many bytes stand at the buffer's front.
+fn read_full(file: &mut impl Read, buffer: &mut [u8]) -> io::Result<usize>
+    ensures { IfOk result (λ n. n ≤ length buffer.new) }
+{
+    let mut done = 0;
+    for _ in 0..buffer.len() {
+        let n = file.read(&mut buffer[done..])?;
+        if n == 0 {
+            break;
+        }
+        done += n;
+    }
+    Ok(done)
+}
+
+fn read_and_replay(rt: &impl Print, mut file: impl Read + Drop) -> io::Result<()> {
+    let mut bytes = file_buffer();
+    let n = read_full(&mut file, &mut bytes)?;
+    replay_file(rt, &bytes[..n])
 }
 
 // Replays a file that was opened, or says that it could not be.
 fn replay_opened(
-    rt: &(impl Print + Eprint + Alloc),
+    rt: &(impl Print + Eprint),
     opened: io::Result<impl Read + Drop>,
     name: &str,
 ) -> io::Result<()> {
