@@ -90,14 +90,14 @@ def source_functions():
     files = sorted(glob.glob(f"{SOURCE}/**/*.rt", recursive=True))
     text = re.sub(r"//.*", "", "".join(open(file, encoding="utf-8").read() for file in files))
     functions = {}
-    pattern = r"#\[no_mangle\]\s*pub extern \"C\" fn (\w+)\s*\(([^)]*)\)\s*->\s*u32\b"
+    pattern = r"#\[unsafe\(no_mangle\)\]\s*pub extern \"C\" fn (\w+)\s*\(([^)]*)\)\s*->\s*u32\b"
     for name, parameters in re.findall(pattern, text):
         kinds = []
         for parameter in parts(parameters):
             kind = parameter.split(":", 1)[1].strip()
             kinds += SOURCE_TYPES.get(kind, [f"? {kind}"])
         functions[name] = kinds
-    check(text.count("#[no_mangle]") == len(functions), f"{SOURCE}: an exported function could not be read")
+    check(text.count("no_mangle") == len(functions), f"{SOURCE}: an exported function could not be read")
     return functions
 
 
