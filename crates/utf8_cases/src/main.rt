@@ -109,8 +109,7 @@ fn is_start_text(bytes: &[u8], n: usize) -> bool
 
 // A string of n bytes has a piece at an offset. What does not fit is cut off.
 fn is_text_around(n: usize, piece: usize, offset: u32) -> bool
-    requires at_most_eight { n ≤ 8 }
-    requires known { piece < 13 }
+    requires { (n ≤ 8) × (piece < 13) }
 {
     let eight = [
         byte_around(piece, offset, 0),
