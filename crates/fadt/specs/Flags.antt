@@ -2,4 +2,4 @@
 use Rattle.std.specs.Prelude.{ℕ, ◌/◌, ◌%◌, ◌^◌, Bool, ◌==◌}
 
 unfoldable pub flag_of : ℕ → ℕ → Bool
-flag_of word bit = (word / 2 ^ bit % 2) == 1
+flag_of word bit = word / 2 ^ bit % 2 == 1

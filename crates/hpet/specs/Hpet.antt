@@ -30,8 +30,8 @@ info_of table =
       event_timer_block_id = id;
       hardware_rev = bits id 7 0;
       num_comparators = bits id 12 8 + 1;
-      main_counter_is_64bits = (bits id 13 13) == 1;
-      legacy_irq_capable = (bits id 15 15) == 1;
+      main_counter_is_64bits = bits id 13 13 == 1;
+      legacy_irq_capable = bits id 15 15 == 1;
       pci_vendor_id = bits id 31 16;
       base_address = number table 44 8;
       hpet_number = number table 52 1;

@@ -63,21 +63,21 @@ abbrev pub address_override : Field
 address_override = 8 bytes_at 4
 
 -- Processor Local x2APIC, 5.2.12.12
-abbrev pub local_x2_apic_id : Field
-local_x2_apic_id = 4 bytes_at 4
+abbrev pub local_x2apic_id : Field
+local_x2apic_id = 4 bytes_at 4
 
-abbrev pub local_x2_apic_flags : Field
-local_x2_apic_flags = 4 bytes_at 8
+abbrev pub local_x2apic_flags : Field
+local_x2apic_flags = 4 bytes_at 8
 
-abbrev pub local_x2_apic_uid : Field
-local_x2_apic_uid = 4 bytes_at 12
+abbrev pub local_x2apic_uid : Field
+local_x2apic_uid = 4 bytes_at 12
 
 -- Local x2APIC NMI, 5.2.12.13
-abbrev pub x2_apic_nmi_uid : Field
-x2_apic_nmi_uid = 4 bytes_at 4
+abbrev pub x2apic_nmi_uid : Field
+x2apic_nmi_uid = 4 bytes_at 4
 
-abbrev pub x2_apic_nmi_line : Field
-x2_apic_nmi_line = 1 bytes_at 8
+abbrev pub x2apic_nmi_line : Field
+x2apic_nmi_line = 1 bytes_at 8
 
 -- Multiprocessor Wakeup, 5.2.12.19
 abbrev pub mailbox_address : Field

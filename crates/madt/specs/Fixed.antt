@@ -17,7 +17,7 @@ madt_of s =
     record {
       local_apic_address = number s 36 4;
       flags = number s 40 4;
-      supports_8259 = (number s 40 4 % 2) == 1;
+      supports_8259 = number s 40 4 % 2 == 1;
     }
 
 unfoldable pub fixed_of : List ℕ → Fixed

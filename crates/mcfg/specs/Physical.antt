@@ -11,7 +11,7 @@ use Rattle.mcfg.specs.declared.PhysicalAddress.TheVariants.{Address, Refused}
 
 -- the entry has the segment group, and the bus among its buses
 abbrev pub includes : ℕ → ℕ → McfgEntry → Bool
-includes segment bus e = (e.pci_segment_group == segment) && nat_le e.bus_number_start bus && nat_le bus e.bus_number_end
+includes segment bus e = e.pci_segment_group == segment && nat_le e.bus_number_start bus && nat_le bus e.bus_number_end
 
 -- the first entry that includes the bus
 unfoldable pub window_of : ℕ → ℕ → List McfgEntry → Window

@@ -34,7 +34,7 @@ ordered (r ∷ s ∷ rest) = follows r s && ordered (s ∷ rest)
 -- the list is right for a slice of size bytes
 unfoldable pub right : ℕ → List ℕ → Bool
 right size words =
-    (length words % 3) == 0
+    length words % 3 == 0
     && nat_le (length words / 3) most_ranges
     && all_inside size (ranges_of words)
     && ordered (ranges_of words)

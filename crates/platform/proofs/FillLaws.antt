@@ -1,9 +1,11 @@
 -- Laws about filling the lent tables.
-use Rattle.std.proofs.Common.{ℕ, zero, suc, ◌+◌, ◌≤◌, ◌<◌, ◌≡◌, refl, ap, sym, ◌∙◌, List, [], ◌∷◌, ◌++◌, Bool, true, false, add-zero, zero-add, add-suc, suc-add, arith, length, get_or, set, length-append}
+use Rattle.std.proofs.Common.{ℕ, zero, suc, ◌+◌, ◌≤◌, ◌<◌, ◌≡◌, refl, ap, ap₂, sym, ◌∙◌, List, [], ◌∷◌, ◌++◌, Bool, true, false, add-zero, zero-add, add-suc, suc-add, arith, length, get_or, set, length-append}
 use lib.Seq.{sets, sets-eq, length-sets}
 use Rattle.field.specs.First.{differ}
+use Rattle.field.specs.Number.{number}
 use Rattle.field.proofs.FirstLaws.{differ_yes, differ_no, differ_true, differ_false, when_hit, when_pass}
-use Rattle.madt.specs.Entries.{next_at, entries_from, entries, faulty}
+use Rattle.madt.specs.Kinds.{kind_of}
+use Rattle.madt.specs.Entries.{entry_at, next_at, entries_from, entries, faulty}
 use Rattle.madt.specs.declared.MadtEntry.{MadtEntry}
 use Rattle.madt.specs.declared.Next.TheVariants.{Entry}
 use Rattle.madt.specs.declared.Kind.{Kind}
@@ -20,7 +22,7 @@ use Rattle.madt.specs.declared.Kind.TheVariants.{
   Foreign,
   Reserved,
 }
-use Rattle.madt.proofs.EntryLaws.{stands, faulty_entry}
+use Rattle.madt.proofs.EntryLaws.{stands, faulty_entry, sound_entry}
 use Rattle.platform.specs.declared.Words.{Words}
 use Rattle.platform.specs.Lists.{list_of, those}
 use Rattle.platform.specs.Records.{record_of, spelled, words_of, waiting, running, list}
@@ -113,6 +115,17 @@ fill_end l s before now to at none was =
 pub record Turn (s : List ℕ) (at p : ℕ) (e : MadtEntry) (words : Words) : Type 0 where
   pub stands_here : next_at s at ≡ Entry e
   pub recorded : words ≡ record_of s (enabled_at p) at e.kind
+
+-- It knows that where no fault is to come and the table goes on, and the record was read for the kind and the state at that place.
+pub turn :
+    {s : List ℕ} {at p k enabled : ℕ} {kind : Kind} {words : Words} → faulty (entries_from s at) ≡ false → at < length s →
+    k ≡ number s at 1 → kind ≡ kind_of k → enabled ≡ enabled_at p → words ≡ record_of s enabled at kind →
+    Turn s at p (entry_at s at) words
+turn {s} {at} sound more read same state told =
+    record {
+      stands_here = sound_entry s at sound more;
+      recorded = told ∙ ap₂ (λ enabled kind. record_of s enabled at kind) state (same ∙ ap kind_of read);
+    }
 
 -- A record goes to the list of its kind.
 record_list : (s : List ℕ) (enabled at : ℕ) (k : Kind) → goes_to (record_of s enabled at k) ≡ list_of k

@@ -1,5 +1,5 @@
 -- Laws about the mailbox.
-use Rattle.std.proofs.Common.{ℕ, ◌+◌, ◌≡◌, refl, ap, sym, ◌∙◌, List, true, false}
+use Rattle.std.proofs.Common.{ℕ, ◌+◌, ◌≤◌, ◌≡◌, refl, ap, sym, ◌∙◌, List, length, true, false, arith}
 use mathlib.Core.Bool.{false≢true}
 use Rattle.field.proofs.FirstLaws.{when_hit, when_pass}
 use Rattle.madt.specs.Kinds.{least_length}
@@ -39,6 +39,10 @@ wakeup_length X2ApicNmi h = absurd (false≢true h)
 wakeup_length LocalApicAddressOverride h = absurd (false≢true h)
 wakeup_length Foreign h = absurd (false≢true h)
 wakeup_length Reserved h = absurd (false≢true h)
+
+-- So the mailbox of one that stands in the table lies in the table.
+pub mailbox_inside : (s : List ℕ) (at : ℕ) (e : MadtEntry) → next_at s at ≡ Entry e → is_wakeup e.kind ≡ true → at + 16 ≤ length s
+mailbox_inside s at e h w = omega (arith, stands s at e h, wakeup_length e.kind w)
 
 -- The first mailbox from a place on, by what stands there.
 pub mailbox_here :

@@ -91,7 +91,7 @@ UnknownIsEmpty = (s : List ℕ) (m : Madt) → (model_with s m).known ≡ false 
 
 -- a known model without a processor
 abbrev pub lacks_processor : Model → Bool
-lacks_processor model = model.known && (model.processors == 0)
+lacks_processor model = model.known && model.processors == 0
 
 -- why there is no model
 unfoldable pub refusals : List ℕ → List Reason

@@ -6,9 +6,9 @@ use Rattle.madt.specs.Fields.{
   local_apic_uid,
   local_apic_id,
   local_apic_flags,
-  local_x2_apic_uid,
-  local_x2_apic_id,
-  local_x2_apic_flags,
+  local_x2apic_uid,
+  local_x2apic_id,
+  local_x2apic_flags,
   io_apic_id,
   io_apic_address,
   io_apic_interrupt_base,
@@ -19,8 +19,8 @@ use Rattle.madt.specs.Fields.{
   nmi_source_flags,
   local_apic_nmi_uid,
   local_apic_nmi_line,
-  x2_apic_nmi_uid,
-  x2_apic_nmi_line,
+  x2apic_nmi_uid,
+  x2apic_nmi_line,
 }
 use Rattle.madt.specs.Entries.{entries}
 use Rattle.madt.specs.declared.MadtEntry.{MadtEntry}
@@ -74,14 +74,14 @@ abbrev pub record_of : List ℕ → ℕ → ℕ → Kind → Words
 record_of s enabled at LocalApic =
     Three processors (value s at local_apic_uid) (value s at local_apic_id) (state_of (value s at local_apic_flags) enabled)
 record_of s enabled at LocalX2Apic =
-    Three processors (value s at local_x2_apic_uid) (value s at local_x2_apic_id) (state_of (value s at local_x2_apic_flags) enabled)
+    Three processors (value s at local_x2apic_uid) (value s at local_x2apic_id) (state_of (value s at local_x2apic_flags) enabled)
 record_of s enabled at IoApic =
     Three io_apics (value s at io_apic_id) (value s at io_apic_address) (value s at io_apic_interrupt_base)
 record_of s enabled at InterruptSourceOverride =
     Three interrupt_source_overrides (value s at override_source) (value s at override_interrupt) (value s at override_flags % 16)
 record_of s enabled at NmiSource = Two nmi_sources (value s at nmi_source_interrupt) (value s at nmi_source_flags % 16)
 record_of s enabled at LocalApicNmi = Two local_apic_nmi_lines (uid_or_all (value s at local_apic_nmi_uid)) (value s at local_apic_nmi_line)
-record_of s enabled at X2ApicNmi = Two local_apic_nmi_lines (value s at x2_apic_nmi_uid) (value s at x2_apic_nmi_line)
+record_of s enabled at X2ApicNmi = Two local_apic_nmi_lines (value s at x2apic_nmi_uid) (value s at x2apic_nmi_line)
 record_of s enabled at LocalApicAddressOverride = Nothing
 record_of s enabled at MultiprocessorWakeup = Nothing
 record_of s enabled at Foreign = Nothing

@@ -6,7 +6,7 @@ use Rattle.madt.specs.Fields.{
   override_flags,
   nmi_source_flags,
   local_apic_nmi_line,
-  x2_apic_nmi_line,
+  x2apic_nmi_line,
 }
 use Rattle.madt.specs.declared.Kind.{Kind}
 use Rattle.madt.specs.declared.Kind.TheVariants.{
@@ -25,7 +25,7 @@ use Rattle.madt.specs.declared.Kind.TheVariants.{
 
 -- MPS INTI flags (5.2.12.5): polarity in bits 0 and 1, trigger in bits 2 and 3; the value 2 is reserved in both
 unfoldable pub wrong_flags : ℕ → Bool
-wrong_flags flags = ((flags % 4) == 2) || ((flags / 4 % 4) == 2)
+wrong_flags flags = flags % 4 == 2 || flags / 4 % 4 == 2
 
 -- an override is of the ISA bus, 0 (5.2.12.5)
 unfoldable pub wrong_bus : ℕ → Bool
@@ -40,7 +40,7 @@ abbrev pub wrong_at : List ℕ → ℕ → Kind → Bool
 wrong_at s at InterruptSourceOverride = wrong_bus (value s at override_bus) || wrong_flags (value s at override_flags)
 wrong_at s at NmiSource = wrong_flags (value s at nmi_source_flags)
 wrong_at s at LocalApicNmi = wrong_line (value s at local_apic_nmi_line)
-wrong_at s at X2ApicNmi = wrong_line (value s at x2_apic_nmi_line)
+wrong_at s at X2ApicNmi = wrong_line (value s at x2apic_nmi_line)
 wrong_at s at LocalApic = false
 wrong_at s at LocalX2Apic = false
 wrong_at s at IoApic = false

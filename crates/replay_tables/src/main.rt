@@ -7,8 +7,9 @@
 mod answer;
 mod lists;
 
-ghost use Rattle.std.specs.Prelude.{◌≡◌, ◌≤◌, length, IfOk};
+ghost use Rattle.std.specs.Prelude.{◌≡◌, ◌≤◌, length};
 
+use cases::file::read_full;
 use cases::{record, tally};
 use std::io::Read;
 use std::{fs, io};
@@ -342,21 +343,6 @@ fn replay_file(rt: &impl Print, file: &[u8]) -> io::Result<()> {
         &mut tallies,
     )?;
     print_result(rt, &tallies, at, is_end(file, at))
-}
-
-// Reads until the buffer is full or the file ends, and answers how many bytes stand at the buffer's front.
-fn read_full(file: &mut impl Read, buffer: &mut [u8]) -> io::Result<usize>
-    ensures { IfOk result (λ n. n ≤ length buffer.new) }
-{
-    let mut done = 0;
-    for _ in 0..buffer.len() {
-        let n = file.read(&mut buffer[done..])?;
-        if n == 0 {
-            break;
-        }
-        done += n;
-    }
-    Ok(done)
 }
 
 fn read_and_replay(rt: &impl Print, mut file: impl Read + Drop) -> io::Result<()> {

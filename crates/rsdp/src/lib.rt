@@ -174,7 +174,7 @@ pub fn root_pointer_at(image: &[u8], ranges: &[u64], address: u64) -> RootPointe
 // Whether a valid root pointer stands at an offset of the view. Nearly everywhere the signature alone says no.
 fn is_valid(view: &[u8], at: usize) -> bool
     requires { at + 20 ≤ length view.now }
-    ensures { result ≡ ((pointer_refusal (drop at view.now)) == 0) }
+    ensures { result ≡ (pointer_refusal (drop at view.now) == 0) }
 {
     if field::u64_at(view, at) != RSD_PTR {
         return false;

@@ -84,6 +84,13 @@ entry_fits Xsdt k len h l = omega arith
 pub whole_length : (v : List ℕ) → length_of v ≤ length v → length (whole_of v) ≡ length_of v
 whole_length v h = length-take-le (length_of v) v h
 
+-- A good root has as many entries as fit behind the header of its whole table.
+pub whole_entries :
+    {image words : List ℕ} {root : RootTable} → GoodRoot image words root →
+    root.entries ≡ (length (whole_of (view_of image words root.address)) - header_size) / size_of root.kind
+whole_entries {image} {words} {root} good =
+    good.counted ∙ sym (ap (λ (n : ℕ). (n - header_size) / size_of root.kind) (whole_length (view_of image words root.address) good.mapped))
+
 -- Where there is a root table, the list of ranges is right and the table is valid and good.
 pub record Rooted (image words : List ℕ) (root : RootTable) : Type 0 where
   pub ranged : right (length image) words ≡ true

@@ -1,3 +1,4 @@
+-- `entry` meets its contract: a slice that is no MADT is refused, of any other the k-th entry is answered.
 use Rattle.std.proofs.Common.{sym, ◌∙◌}
 use Rattle.field.proofs.FirstLaws.{when_hit, when_pass}
 use Rattle.madt.specs.Entries.{entry_of}

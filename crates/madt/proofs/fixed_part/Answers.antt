@@ -1,3 +1,4 @@
+-- `fixed_part` meets its contract: a slice that is no MADT is refused, any other has the bytes of its fixed part.
 use Rattle.std.proofs.Common.{sym, ◌∙◌, arith}
 use Rattle.field.proofs.FirstLaws.{when_hit, when_pass}
 use Rattle.madt.specs.Fixed.{madt_of, fixed_of}

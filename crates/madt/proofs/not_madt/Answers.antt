@@ -1,3 +1,4 @@
+-- `not_madt` meets its contract: a slice is no MADT where it is too short, and else where it states another length.
 use Rattle.std.proofs.Common.{sym, arith}
 use Rattle.field.specs.First.{differ}
 use Rattle.madt.proofs.FixedLaws.{short, by_stated}

@@ -1,10 +1,10 @@
 use Rattle.std.proofs.Common.{refl, ap, ◌∙◌, arith}
 use Rattle.madt.specs.Kinds.{kind_of, least_length}
-use Rattle.madt.specs.Entries.{entry_at, entries}
+use Rattle.madt.specs.Entries.{entries}
 use Rattle.madt.proofs.EntryLaws.{stands, sound_entry}
 use Rattle.platform.specs.Lists.{processors, io_apics, interrupt_source_overrides, nmi_sources, local_apic_nmi_lines}
 use Rattle.platform.proofs.ListLaws.{those_past}
-use Rattle.platform.proofs.FillLaws.{fill_start, fill_end, Turn, fill_room, fill_entry, still_sound}
+use Rattle.platform.proofs.FillLaws.{fill_start, fill_end, turn, fill_room, fill_entry, still_sound}
 use Rattle.platform.proofs.fill_lists.Goals as goal
 
 pub loop-at-init : goal.loop-at-init
@@ -26,32 +26,27 @@ record_of-words-requires c =
 
 pub put-p-requires : goal.put-p-requires
 put-p-requires c =
-    let t : Turn c.args.table.now c.loop-at.at c.loop-at.p (entry_at c.args.table.now c.loop-at.at) c.record_of-words.result =
-    record { stands_here = sound_entry _ _ c.loop-at.invariant.0 c.loop-at-test.true; recorded = cc } in
+    let t = turn c.loop-at.invariant.0 c.loop-at-test.true c.u8_at.ensures c.kind_of-kind.ensures c.enabled_at.ensures c.record_of-words.ensures in
     fill_room t processors _ (omega arith) (λ _. refl) c.loop-at.invariant.1
 
 pub put-i-requires : goal.put-i-requires
 put-i-requires c =
-    let t : Turn c.args.table.now c.loop-at.at c.loop-at.p (entry_at c.args.table.now c.loop-at.at) c.record_of-words.result =
-    record { stands_here = sound_entry _ _ c.loop-at.invariant.0 c.loop-at-test.true; recorded = cc } in
+    let t = turn c.loop-at.invariant.0 c.loop-at-test.true c.u8_at.ensures c.kind_of-kind.ensures c.enabled_at.ensures c.record_of-words.ensures in
     fill_room t io_apics _ (omega arith) (λ z. absurd (omega arith)) c.loop-at.invariant.2
 
 pub put-o-requires : goal.put-o-requires
 put-o-requires c =
-    let t : Turn c.args.table.now c.loop-at.at c.loop-at.p (entry_at c.args.table.now c.loop-at.at) c.record_of-words.result =
-    record { stands_here = sound_entry _ _ c.loop-at.invariant.0 c.loop-at-test.true; recorded = cc } in
+    let t = turn c.loop-at.invariant.0 c.loop-at-test.true c.u8_at.ensures c.kind_of-kind.ensures c.enabled_at.ensures c.record_of-words.ensures in
     fill_room t interrupt_source_overrides _ (omega arith) (λ z. absurd (omega arith)) c.loop-at.invariant.3
 
 pub put-n-requires : goal.put-n-requires
 put-n-requires c =
-    let t : Turn c.args.table.now c.loop-at.at c.loop-at.p (entry_at c.args.table.now c.loop-at.at) c.record_of-words.result =
-    record { stands_here = sound_entry _ _ c.loop-at.invariant.0 c.loop-at-test.true; recorded = cc } in
+    let t = turn c.loop-at.invariant.0 c.loop-at-test.true c.u8_at.ensures c.kind_of-kind.ensures c.enabled_at.ensures c.record_of-words.ensures in
     fill_room t nmi_sources _ (omega arith) (λ z. absurd (omega arith)) c.loop-at.invariant.4
 
 pub put-l-requires : goal.put-l-requires
 put-l-requires c =
-    let t : Turn c.args.table.now c.loop-at.at c.loop-at.p (entry_at c.args.table.now c.loop-at.at) c.record_of-words.result =
-    record { stands_here = sound_entry _ _ c.loop-at.invariant.0 c.loop-at-test.true; recorded = cc } in
+    let t = turn c.loop-at.invariant.0 c.loop-at-test.true c.u8_at.ensures c.kind_of-kind.ensures c.enabled_at.ensures c.record_of-words.ensures in
     fill_room t local_apic_nmi_lines _ (omega arith) (λ z. absurd (omega arith)) c.loop-at.invariant.5
 
 pub overflow_add-at : goal.overflow_add-at
@@ -68,8 +63,7 @@ loop-at-smaller c = omega (arith, stands _ _ _ (sound_entry _ _ c.loop-at.invari
 
 pub loop-at-preserved : goal.loop-at-preserved
 loop-at-preserved c =
-    let t : Turn c.args.table.now c.loop-at.at c.loop-at.p (entry_at c.args.table.now c.loop-at.at) c.record_of-words.result =
-    record { stands_here = sound_entry _ _ c.loop-at.invariant.0 c.loop-at-test.true; recorded = cc } in
+    let t = turn c.loop-at.invariant.0 c.loop-at-test.true c.u8_at.ensures c.kind_of-kind.ensures c.enabled_at.ensures c.record_of-words.ensures in
     let was = c.loop-at.invariant in
     let len = c.u8_at-in-loop-at.ensures in (
       still_sound t was.0 len,

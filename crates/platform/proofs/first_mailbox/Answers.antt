@@ -2,7 +2,7 @@ use Rattle.std.proofs.Common.{refl, ap, sym, ◌∙◌, arith}
 use Rattle.madt.specs.Entries.{entries}
 use Rattle.madt.proofs.EntryLaws.{stands}
 use Rattle.platform.specs.declared.Mailbox.TheVariants.{Address}
-use Rattle.platform.proofs.MailboxLaws.{wakeup_length, mailbox_here, mailbox_next, mailbox_fault, mailbox_end}
+use Rattle.platform.proofs.MailboxLaws.{mailbox_inside, mailbox_here, mailbox_next, mailbox_fault, mailbox_end}
 use Rattle.platform.proofs.first_mailbox.Goals as goal
 
 pub loop-e-init : goal.loop-e-init
@@ -11,13 +11,11 @@ loop-e-init c = refl
 
 pub overflow_add-at : goal.overflow_add-at
 overflow_add-at c =
-    let wakeup = wakeup_length c.in-Entry.e.kind (sym c.is_wakeup.ensures ∙ c.if-is_wakeup.true) in
-    omega (arith, stands _ _ _ (sym c.next_entry.ensures ∙ c.in-Entry.is))
+    omega (arith, mailbox_inside _ _ _ (sym c.next_entry.ensures ∙ c.in-Entry.is) (sym c.is_wakeup.ensures ∙ c.if-is_wakeup.true))
 
 pub u64_at-requires : goal.u64_at-requires
 u64_at-requires c =
-    let wakeup = wakeup_length c.in-Entry.e.kind (sym c.is_wakeup.ensures ∙ c.if-is_wakeup.true) in
-    omega (arith, stands _ _ _ (sym c.next_entry.ensures ∙ c.in-Entry.is))
+    omega (arith, mailbox_inside _ _ _ (sym c.next_entry.ensures ∙ c.in-Entry.is) (sym c.is_wakeup.ensures ∙ c.if-is_wakeup.true))
 
 pub returns-then-is_wakeup : goal.returns-then-is_wakeup
 returns-then-is_wakeup c =
