@@ -1,7 +1,8 @@
--- Laws about tests and the first number that applies.
-use Rattle.std.proofs.Common.{◌≡◌, ℕ, zero, suc, ◌<◌, ◌≤◌, Bool, true, false, not, ◌&&◌, T, eqb, leb, List, [], ◌∷◌, ◌++◌, sym, refl, ap, ◌∙◌, subst, le_trans, le_refl, arith, ltb-false, ltb-true, le-ltb, lt-ltb, eq-eqb, ne_eqb, eqb-true, leb-true}
+-- Laws about tests and the first refusal that applies.
+use Rattle.std.proofs.Common.{◌≡◌, ℕ, ◌<◌, ◌≤◌, Bool, true, false, not, ◌&&◌, T, eqb, leb, List, [], ◌∷◌, ◌++◌, sym, refl, ap, ◌∙◌, subst, le_trans, le_refl, ltb-false, ltb-true, le-ltb, lt-ltb, eq-eqb, ne_eqb, eqb-true, leb-true}
 use borrow.Author.Tests.{eqb-false, not-true, not-false}
-use Rattle.field.specs.First.{less, differ, when, Reason, ◌gives◌, first_number, Ascending, Applies, FirstIsSmallest}
+use Rattle.std.specs.Prelude.{Result, Ok, Err}
+use Rattle.field.specs.First.{less, differ, when, Reason, ◌gives◌, checked, Ascending, Applies, RefusedBy, FirstIsSmallest}
 use Rattle.field.specs.First.Ascending.{no_more, then}
 use Rattle.field.specs.First.Applies.{here, later}
 
@@ -47,82 +48,83 @@ pub when_pass : {A : Type 0} (t : Bool) (x rest : A) → t ≡ false → when t 
 unfolding when
 when_pass t x rest e = rw e
 
--- The same for the first number that applies: the first reason holds, or it does not and the rest decides.
-pub hit : (t : Bool) (n : ℕ) (rest : List Reason) → t ≡ true → first_number ((t gives n) ∷ rest) ≡ n
-unfolding first_number
-hit t n rest e = when_hit t n (first_number rest) e
+-- The same for the first refusal that applies: the first reason holds, or it does not and the rest decides.
+pub hit : {R : Type 0} (t : Bool) (r : R) (rest : List (Reason R)) → t ≡ true → checked ((t gives r) ∷ rest) ≡ Err r
+unfolding checked
+hit t r rest e = when_hit t (Err r) (checked rest) e
 
-pub pass : (t : Bool) (n : ℕ) (rest : List Reason) {x : ℕ} → t ≡ false → first_number rest ≡ x → first_number ((t gives n) ∷ rest) ≡ x
-unfolding first_number
-pass t n rest e q = when_pass t n (first_number rest) e ∙ q
+pub pass : {R : Type 0} (t : Bool) (r : R) (rest : List (Reason R)) {x : Result (Unit {0}) R} → t ≡ false → checked rest ≡ x
+    → checked ((t gives r) ∷ rest) ≡ x
+unfolding checked
+pass t r rest e q = when_pass t (Err r) (checked rest) e ∙ q
 
-pub clear : first_number [] ≡ 0
-unfolding first_number
+pub clear : {R : Type 0} → checked {R = R} [] ≡ Ok tt
+unfolding checked
 clear = refl
 
-suc_not_zero : (n : ℕ) → suc n ≡ 0 → ⊥
-suc_not_zero n e = omega arith
-
--- Where no number applies, the first reason does not hold and none of the rest does.
-pub record Clear (t : Bool) (rest : List Reason) : Type 0 where
+-- Where nothing is refused, the first reason does not hold and none of the rest does.
+pub record Clear {R : Type 0} (t : Bool) (rest : List (Reason R)) : Type 0 where
   pub fails : t ≡ false
-  pub others : first_number rest ≡ 0
+  pub others : checked rest ≡ Ok tt
 
-pub all_clear : (t : Bool) (n : ℕ) (rest : List Reason) → first_number ((t gives suc n) ∷ rest) ≡ 0 → Clear t rest
-unfolding first_number when
-all_clear true n rest e = absurd (suc_not_zero n e)
-all_clear false n rest e = record { fails = refl; others = e }
+-- A refusal is no value.
+refuses : {T E : Type 0} → Result T E → Bool
+refuses (Ok x) = false
+refuses (Err e) = true
 
--- Of two lists in a row the first decides where one of its numbers applies, else the second.
-pub append_stops : (first rest : List Reason) (n : ℕ) → first_number first ≡ n → (n ≡ 0 → ⊥) → first_number (first ++ rest) ≡ n
-unfolding first_number when
-append_stops [] rest n e h = absurd (h (sym e))
-append_stops ((true gives m) ∷ first) rest n e h = e
-append_stops ((false gives m) ∷ first) rest n e h = append_stops first rest n e h
+pub err_not_ok : {T E X : Type 0} (x : T) (e : E) → ◌≡◌ {A = Result T E} (Err e) (Ok x) → X
+unfolding refuses
+err_not_ok x e q = absurd (subst T (ap refuses q) tt)
 
--- whether each number of the list is positive
-unfoldable pub positive : List Reason → Bool
-positive [] = true
-positive ((test gives zero) ∷ rest) = false
-positive ((test gives suc n) ∷ rest) = positive rest
+pub all_clear : {R : Type 0} (t : Bool) (r : R) (rest : List (Reason R)) → checked ((t gives r) ∷ rest) ≡ Ok tt → Clear t rest
+unfolding checked when
+all_clear true r rest e = err_not_ok tt r e
+all_clear false r rest e = record { fails = refl; others = e }
 
-pub append_passes : (first rest : List Reason) → T (positive first) → first_number first ≡ 0 → first_number (first ++ rest) ≡ first_number rest
-unfolding first_number when positive
-append_passes [] rest t e = refl
-append_passes ((true gives zero) ∷ first) rest t e = absurd t
-append_passes ((true gives suc m) ∷ first) rest t e = absurd (suc_not_zero m e)
-append_passes ((false gives zero) ∷ first) rest t e = absurd t
-append_passes ((false gives suc m) ∷ first) rest t e = append_passes first rest t e
+-- Of two lists in a row the first decides where one of its reasons holds, else the second.
+pub append_stops : {R : Type 0} (first rest : List (Reason R)) (r : R) → checked first ≡ Err r → checked (first ++ rest) ≡ Err r
+unfolding checked when
+append_stops [] rest r e = err_not_ok tt r (sym e)
+append_stops ((true gives q) ∷ first) rest r e = e
+append_stops ((false gives q) ∷ first) rest r e = append_stops first rest r e
 
--- In an ascending list every number that applies is at least the list's bound.
-at_least : {m : ℕ} {reasons : List Reason} → Ascending m reasons → {n : ℕ} → Applies n reasons → m ≤ n
-at_least (no_more {m = m}) {n = n} a = elim a [ ]
+pub append_passes : {R : Type 0} (first rest : List (Reason R)) → checked first ≡ Ok tt → checked (first ++ rest) ≡ checked rest
+unfolding checked when
+append_passes [] rest e = refl
+append_passes ((true gives q) ∷ first) rest e = err_not_ok tt q e
+append_passes ((false gives q) ∷ first) rest e = append_passes first rest e
+
+-- In an ascending list every refusal that applies has at least the number that bounds the list.
+at_least : {R : Type 0} {number : R → ℕ} {m : ℕ} {reasons : List (Reason R)} → Ascending number m reasons → {r : R} → Applies r reasons → m ≤ number r
+at_least (no_more {m = m}) {r = r} a = elim a [ ]
 at_least (then le rest) (here e) = le
 at_least (then le rest) (later a) = le_trans le (at_least rest a)
 
 -- The first reason of an ascending list holds, and its number is the smallest; or the rest decides.
-smallest : {m : ℕ} {reasons : List Reason} → Ascending m reasons → {n : ℕ} → Applies n reasons → first_number reasons ≤ n
-unfolding first_number when
-smallest (no_more {m = m}) {n = n} a = elim a [ ]
-smallest (then {n = k} {test = true} le rest) (here e) = le_refl k
+smallest : {R : Type 0} {number : R → ℕ} {m : ℕ} {reasons : List (Reason R)} → Ascending number m reasons → {r : R} → Applies r reasons
+    → RefusedBy number (number r) (checked reasons)
+unfolding checked when
+smallest (no_more {m = m}) {r = r} a = elim a [ ]
+smallest {number = number} (then {r = q} {test = true} le rest) (here e) = record { refusal = q; given = refl; most = le_refl (number q) }
 smallest (then {test = false} le rest) (here e) = absurd (subst T (sym e) tt)
-smallest (then {test = true} le rest) (later a) = at_least rest a
+smallest (then {r = q} {test = true} le rest) (later a) = record { refusal = q; given = refl; most = at_least rest a }
 smallest (then {test = false} le rest) (later a) = smallest rest a
 
 pub first_is_smallest : FirstIsSmallest
-first_is_smallest m n reasons ascending applies = smallest ascending applies
+first_is_smallest R number m r reasons ascending applies = smallest ascending applies
 
 -- whether each number of the list is at least the bound and the one before it
-unfoldable pub ascends : ℕ → List Reason → Bool
-ascends m [] = true
-ascends m ((test gives n) ∷ rest) = leb m n && ascends n rest
+unfoldable pub ascends : {R : Type 0} → (R → ℕ) → ℕ → List (Reason R) → Bool
+ascends number m [] = true
+ascends number m ((test gives r) ∷ rest) = leb m (number r) && ascends number (number r) rest
 
 -- A list of which that is computed ascends.
-pub ascending : (m : ℕ) (reasons : List Reason) → T (ascends m reasons) → Ascending m reasons
+pub ascending : {R : Type 0} (number : R → ℕ) (m : ℕ) (reasons : List (Reason R)) → T (ascends number m reasons) → Ascending number m reasons
 unfolding ascends
-ascending m [] t = no_more
-ascending m ((test gives n) ∷ rest) t = go (leb m n) refl t (ascending n rest)
+ascending number m [] t = no_more
+ascending number m ((test gives r) ∷ rest) t = go (leb m (number r)) refl t (ascending number (number r) rest)
   where
-    go : (b : Bool) → leb m n ≡ b → T (b && ascends n rest) → (T (ascends n rest) → Ascending n rest) → Ascending m ((test gives n) ∷ rest)
-    go true e t more = then (leb-true m n e) (more t)
+    go : (b : Bool) → leb m (number r) ≡ b → T (b && ascends number (number r) rest)
+        → (T (ascends number (number r) rest) → Ascending number (number r) rest) → Ascending number m ((test gives r) ∷ rest)
+    go true e t more = then (leb-true m (number r) e) (more t)
     go false e t more = absurd t

@@ -1,23 +1,21 @@
 -- Laws about the walk over UTF-8: how what is expected changes with a byte.
 use Rattle.std.proofs.Common.{◌≡◌, ℕ, zero, suc, ◌+◌, ◌-◌, ◌<◌, ◌≤◌, Bool, false, ◌&&◌, eqb, List, [], ◌∷◌, length, get_or, drop, sym, refl, ap, ◌∙◌, subst, add-one, sub-one, drop_of_length-le, drop-cons}
 use lib.Dec.{eqb-suc-zero}
-use Rattle.field.specs.Text.{◌to◌, within, table, Following, following_in, well_formed}
-use Rattle.field.specs.Text.Following.{nothing_fits, these}
+use Rattle.field.specs.Text.{Span, ◌to◌, within, table, following_in, well_formed}
+use Rattle.std.specs.Prelude.{Option, Some, None}
 use Rattle.field.specs.Walk.{spans, spans_of, meaning, well_formed_after}
 use Rattle.field.specs.declared.utf8.Expected.{Expected}
-use Rattle.field.specs.declared.utf8.Ahead.{Ahead}
-use Rattle.field.specs.declared.utf8.Ahead.TheVariants.{Ill, Expect}
 use Rattle.field.proofs.TextLaws.{inside}
 
 -- What a first byte leads to decides about the bytes behind it.
-leads : (r : Ahead) (b : ℕ) (s : List ℕ) → meaning r ≡ following_in table b → well_formed [] (b ∷ s) ≡ well_formed_after r s
+leads : (r : Option Expected) (b : ℕ) (s : List ℕ) → meaning r ≡ following_in table b → well_formed [] (b ∷ s) ≡ well_formed_after r s
 unfolding well_formed meaning well_formed_after
-leads Ill b s q = subst (λ (f : Following). elim f [ nothing_fits ↦ false | these spans ↦ well_formed spans s ] ≡ false) q refl
-leads (Expect e) b s q =
-    subst (λ (f : Following). elim f [ nothing_fits ↦ false | these spans ↦ well_formed spans s ] ≡ well_formed (spans_of e) s) q refl
+leads None b s q = subst (λ (f : Option (List Span)). elim f [ None ↦ false | Some spans ↦ well_formed spans s ] ≡ false) q refl
+leads (Some e) b s q =
+    subst (λ (f : Option (List Span)). elim f [ None ↦ false | Some spans ↦ well_formed spans s ] ≡ well_formed (spans_of e) s) q refl
 
 -- With nothing expected a byte begins a sequence.
-pub begins : (e : Expected) (b : ℕ) (r : Ahead) (s : List ℕ) → e.left ≡ 0 → meaning r ≡ following_in table b
+pub begins : (e : Expected) (b : ℕ) (r : Option Expected) (s : List ℕ) → e.left ≡ 0 → meaning r ≡ following_in table b
     → well_formed (spans_of e) (b ∷ s) ≡ well_formed_after r s
 unfolding spans_of spans
 begins e b r s none q = ap (λ (n : ℕ). well_formed (spans n e.low e.high) (b ∷ s)) none ∙ leads r b s q
@@ -40,18 +38,18 @@ goes_on e b s h = go e.left h
 
 -- A byte outside the next span makes the bytes ill formed, one inside it lets the walk go on.
 pub stops : (e : Expected) (b : ℕ) (s : List ℕ) → (e.left ≡ 0 → ⊥) → within (e.low to e.high) b ≡ false
-    → well_formed (spans_of e) (b ∷ s) ≡ well_formed_after Ill s
+    → well_formed (spans_of e) (b ∷ s) ≡ well_formed_after None s
 unfolding well_formed_after
 stops e b s h out = goes_on e b s h ∙ ap (λ (t : Bool). t && well_formed (spans (e.left - 1) 0x80 0xbf) s) out
 
 pub steps : (e : Expected) (b : ℕ) (s : List ℕ) → (e.left ≡ 0 → ⊥) → e.low ≤ b → b ≤ e.high
-    → well_formed (spans_of e) (b ∷ s) ≡ well_formed_after (Expect (record { left = e.left - 1; low = 0x80; high = 0xbf })) s
+    → well_formed (spans_of e) (b ∷ s) ≡ well_formed_after (Some (record { left = e.left - 1; low = 0x80; high = 0xbf })) s
 unfolding well_formed_after spans_of
 steps e b s h low high =
     goes_on e b s h ∙ ap (λ (t : Bool). t && well_formed (spans (e.left - 1) 0x80 0xbf) s) (inside (e.low to e.high) b low high)
 
 -- The walk at place i takes the byte there and goes on behind it: what the byte led to says of the rest what the whole asks.
-pub walk_step : (s : List ℕ) (i : ℕ) (e : Expected) (r r' : Ahead) {whole : Bool} → i < length s
+pub walk_step : (s : List ℕ) (i : ℕ) (e : Expected) (r r' : Option Expected) {whole : Bool} → i < length s
     → ((t : List ℕ) → well_formed (spans_of e) (get_or s i 0 ∷ t) ≡ well_formed_after r t)
     → well_formed (spans_of e) (drop i s) ≡ whole → r ≡ r' → well_formed_after r' (drop (i + 1) s) ≡ whole
 walk_step s i e r r' h next all same = rw (add-one, ← same, ← next (drop (suc i) s), ← drop-cons s i 0 h) all

@@ -1,6 +1,7 @@
--- The first number that applies. A question that may be refused for several reasons has a list of them, a test and its
--- number each, ascending: the answer is the number of the first test that holds, which is then the smallest that applies.
-use Rattle.std.specs.Prelude.{◌≡◌, ℕ, ◌≤◌, Bool, true, false, not, List, [], ◌∷◌, ◌==◌, nat_lt}
+-- The first refusal that applies. A question that may be refused for several reasons has a list of them, a test and its
+-- refusal each, with ascending numbers: the answer is the refusal of the first test that holds, whose number is then the
+-- smallest of those that apply.
+use Rattle.std.specs.Prelude.{◌≡◌, ℕ, ◌≤◌, Bool, true, false, not, List, [], ◌∷◌, ◌==◌, nat_lt, Result, Ok, Err}
 
 -- The tests of a refusal. They say what `nat_lt` and `==` say, and stay shut, so that laws can be found by their shape.
 unfoldable pub less : ℕ → ℕ → Bool
@@ -15,25 +16,34 @@ when true x rest = x
 when false x rest = rest
 
 infix 20 ◌gives◌
--- a reason to refuse: where the test holds, the number applies
-pub data Reason : Type 0 where
-  ◌gives◌ : Bool → ℕ → Reason
+-- a reason to refuse: where the test holds, the refusal applies
+pub data Reason (R : Type 0) : Type 0 where
+  ◌gives◌ : Bool → R → Reason R
 
--- the number of the first reason that holds, 0 where none does
-unfoldable pub first_number : List Reason → ℕ
-first_number [] = 0
-first_number ((test gives n) ∷ rest) = when test n (first_number rest)
+-- the refusal of the first reason that holds; nothing is refused where none does
+unfoldable pub checked : {R : Type 0} → List (Reason R) → Result (Unit {0}) R
+checked [] = Ok tt
+checked ((test gives r) ∷ rest) = when test (Err r) (checked rest)
 
--- each number of the list is at least m, and they ascend
-pub data Ascending : ℕ → List Reason → Type 0 where
-  no_more : {m : ℕ} → Ascending m []
-  then : {m n : ℕ} {test : Bool} {rest : List Reason} → m ≤ n → Ascending n rest → Ascending m ((test gives n) ∷ rest)
+-- the number of each refusal of the list is at least m, and they ascend
+pub data Ascending {R : Type 0} (number : R → ℕ) : ℕ → List (Reason R) → Type 0 where
+  no_more : {m : ℕ} → Ascending number m []
+  then : {m : ℕ} {r : R} {test : Bool} {rest : List (Reason R)} → m ≤ number r → Ascending number (number r) rest
+      → Ascending number m ((test gives r) ∷ rest)
 
--- the number n applies: a reason of the list that gives it holds
-pub data Applies (n : ℕ) : List Reason → Type 0 where
-  here : {test : Bool} {rest : List Reason} → test ≡ true → Applies n ((test gives n) ∷ rest)
-  later : {r : Reason} {rest : List Reason} → Applies n rest → Applies n (r ∷ rest)
+-- the refusal r applies: a reason of the list that gives it holds
+pub data Applies {R : Type 0} (r : R) : List (Reason R) → Type 0 where
+  here : {test : Bool} {rest : List (Reason R)} → test ≡ true → Applies r ((test gives r) ∷ rest)
+  later : {reason : Reason R} {rest : List (Reason R)} → Applies r rest → Applies r (reason ∷ rest)
 
--- In an ascending list the first number that applies is the smallest that applies.
-abbrev pub FirstIsSmallest : Type 0
-FirstIsSmallest = (m n : ℕ) (reasons : List Reason) → Ascending m reasons → Applies n reasons → first_number reasons ≤ n
+-- something is refused, with a number of at most n
+pub record RefusedBy {R : Type 0} (number : R → ℕ) (n : ℕ) (answer : Result (Unit {0}) R) : Type 0 where
+  pub refusal : R
+  pub given : answer ≡ Err refusal
+  pub most : number refusal ≤ n
+
+-- In a list that ascends, where a refusal applies the first that does is answered, and its number is the smallest that applies.
+abbrev pub FirstIsSmallest : Type 1
+FirstIsSmallest =
+    (R : Type 0) (number : R → ℕ) (m : ℕ) (r : R) (reasons : List (Reason R)) → Ascending number m reasons → Applies r reasons
+    → RefusedBy number (number r) (checked reasons)

@@ -1,5 +1,6 @@
 -- Which bytes are UTF-8: the Unicode Standard, section 3.9, Table 3-7, "Well-Formed UTF-8 Byte Sequences".
-use Rattle.std.specs.Prelude.{ℕ, Bool, true, false, ◌&&◌, List, [], ◌∷◌, nat_le}
+use Rattle.std.specs.Prelude.{ℕ, Bool, true, false, ◌&&◌, List, [], ◌∷◌, nat_le, Option, Some, None}
+use Rattle.field.specs.First.{when}
 
 -- the bytes from the low one up to and including the high one
 pub record Span : Type 0 where
@@ -32,25 +33,17 @@ table =
     ∷ record { first = 0xf4 to 0xf4; following = (0x80 to 0x8f) ∷ (0x80 to 0xbf) ∷ (0x80 to 0xbf) ∷ [] }
     ∷ []
 
--- what has to follow a first byte, where a row has it
-pub data Following : Type 0 where
-  nothing_fits : Following
-  these : List Span → Following
-
-unfoldable pub pick : Bool → Following → Following → Following
-pick true x rest = x
-pick false x rest = rest
-
-unfoldable pub following_in : List Row → ℕ → Following
-following_in [] b = nothing_fits
-following_in (row ∷ rows) b = pick (within row.first b) (these row.following) (following_in rows b)
+-- what has to follow a first byte: the spans of the first row that has it
+unfoldable pub following_in : List Row → ℕ → Option (List Span)
+following_in [] b = None
+following_in (row ∷ rows) b = when (within row.first b) (Some row.following) (following_in rows b)
 
 -- the bytes s are well formed where the bytes still to come of a sequence that has begun are those of the spans
 unfoldable pub well_formed : List Span → List ℕ → Bool
 well_formed [] [] = true
 well_formed (span ∷ spans) [] = false
 well_formed (span ∷ spans) (b ∷ s) = within span b && well_formed spans s
-well_formed [] (b ∷ s) = elim (following_in table b) [ nothing_fits ↦ false | these spans ↦ well_formed spans s ]
+well_formed [] (b ∷ s) = elim (following_in table b) [ None ↦ false | Some spans ↦ well_formed spans s ]
 
 -- the bytes are UTF-8
 unfoldable pub text : List ℕ → Bool

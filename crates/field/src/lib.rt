@@ -1,9 +1,8 @@
 // Reads numbers, sums and text out of slices of bytes. Every other crate reads through these functions.
 #![tactic(auto)]
 
-ghost use Rattle.std.specs.Prelude.{◌≡◌, ◌+◌, ◌%◌, ◌<◌, ◌≤◌, length};
+ghost use Rattle.std.specs.Prelude.{◌≡◌, ◌+◌, ◌%◌, ◌<◌, ◌≤◌, length, sum};
 ghost use Rattle.field.specs.Number.{number};
-ghost use Rattle.field.specs.Sum.{sum};
 ghost use Rattle.field.specs.Text.{text};
 
 // The numbers of one, two, four and eight bytes at an offset, lowest byte first.
@@ -39,13 +38,7 @@ pub fn u64_at(bytes: &[u8], at: usize) -> u64
 pub fn sum(bytes: &[u8]) -> u8
     ensures { result ≡ sum bytes.now % 256 }
 {
-    let mut total: u8 = 0;
-    let mut i = 0;
-    while i < bytes.len() {
-        total = std::num::wrapping_add_u8(total, bytes[i]);
-        i += 1;
-    }
-    total
+    bytes.iter().fold(0, |total: u8, b| total.wrapping_add(*b))
 }
 
 mod utf8;
@@ -59,17 +52,11 @@ pub fn is_text(bytes: &[u8]) -> bool
         low: 0x80,
         high: 0xbf,
     };
-    let mut i = 0;
-    while i < bytes.len() {
-        match utf8::next(expected, bytes[i]) {
-            utf8::Ahead::Ill => {
-                return false;
-            }
-            utf8::Ahead::Expect(e) => {
-                expected = e;
-            }
+    for b in bytes {
+        match utf8::next(expected, *b) {
+            Some(ahead) => expected = ahead,
+            None => return false,
         }
-        i += 1;
     }
     expected.left == 0
 }

@@ -11,28 +11,21 @@ pub struct Expected {
     pub high: u8,
 }
 
-// What a byte leads to: the bytes are not well formed, or more is expected.
-#[derive(Clone, Copy)]
-pub enum Ahead {
-    Ill,
-    Expect(Expected),
-}
-
-fn expect(left: u8, low: u8, high: u8) -> Ahead
-    ensures { result ≡ Ahead.Expect (record { left = left; low = low; high = high }) }
+fn expect(left: u8, low: u8, high: u8) -> Option<Expected>
+    ensures { result ≡ Some (record { left = left; low = low; high = high }) }
 {
-    Ahead::Expect(Expected { left, low, high })
+    Some(Expected { left, low, high })
 }
 
-// What follows a byte that begins a sequence.
-pub fn begin(b: u8) -> Ahead
+// What is expected after a byte that begins a sequence, or nothing where none begins with it.
+pub fn begin(b: u8) -> Option<Expected>
     ensures { meaning result ≡ following_in table b }
 {
     if b < 0x80 {
         return expect(0, 0x80, 0xbf);
     }
     if b < 0xc2 {
-        return Ahead::Ill;
+        return None;
     }
     if b < 0xe0 {
         return expect(1, 0x80, 0xbf);
@@ -43,11 +36,11 @@ pub fn begin(b: u8) -> Ahead
     if b < 0xf5 {
         return begin_four(b);
     }
-    Ahead::Ill
+    None
 }
 
 // The same for the first bytes of three and of four.
-fn begin_three(b: u8) -> Ahead
+fn begin_three(b: u8) -> Option<Expected>
     requires { (0xe0 ≤ b) × (b < 0xf0) }
     ensures { meaning result ≡ following_in table b }
 {
@@ -63,7 +56,7 @@ fn begin_three(b: u8) -> Ahead
     expect(2, 0x80, 0xbf)
 }
 
-fn begin_four(b: u8) -> Ahead
+fn begin_four(b: u8) -> Option<Expected>
     requires { (0xf0 ≤ b) × (b < 0xf5) }
     ensures { meaning result ≡ following_in table b }
 {
@@ -76,8 +69,8 @@ fn begin_four(b: u8) -> Ahead
     expect(3, 0x80, 0x8f)
 }
 
-// What one byte more leads to.
-pub fn next(e: Expected, b: u8) -> Ahead
+// What is expected after one byte more, or nothing where the bytes are not well formed.
+pub fn next(e: Expected, b: u8) -> Option<Expected>
     ensures { (s : List ℕ) → well_formed (spans_of e) (b ∷ s) ≡ well_formed_after result s }
 {
     let left = e.left;
@@ -85,10 +78,10 @@ pub fn next(e: Expected, b: u8) -> Ahead
         return begin(b);
     }
     if b < e.low {
-        return Ahead::Ill;
+        return None;
     }
     if e.high < b {
-        return Ahead::Ill;
+        return None;
     }
     expect(left - 1, 0x80, 0xbf)
 }

@@ -2,7 +2,8 @@
 use Rattle.std.proofs.Common.{sym, ap, ◌∙◌, arith}
 use Rattle.field.specs.Text.{◌to◌}
 use Rattle.field.specs.Walk.{well_formed_after}
-use Rattle.field.specs.declared.utf8.Ahead.{Ahead}
+use Rattle.std.specs.Prelude.{Option}
+use Rattle.field.specs.declared.utf8.Expected.{Expected}
 use Rattle.field.proofs.TextLaws.{below, above}
 use Rattle.field.proofs.WalkLaws.{begins, stops, steps}
 use Rattle.field.proofs.utf8.next.Goals as goal
@@ -24,4 +25,4 @@ pub returns : goal.returns
 returns c s =
     let a = c.args in
     steps a.e a.b s c.if-left-eq0.false (omega arith) (omega arith)
-    ∙ ap (λ (r : Ahead). well_formed_after r s) (sym c.expect.ensures)
+    ∙ ap (λ (r : Option Expected). well_formed_after r s) (sym c.expect.ensures)
