@@ -17,21 +17,30 @@ pub fn u16_at(bytes: &[u8], at: usize) -> u16
     requires { at + 2 ≤ length bytes.now }
     ensures { result ≡ number bytes.now at 2 }
 {
-    (u8_at(bytes, at) as u16) + 256 * (u8_at(bytes, at + 1) as u16)
+    u16::from_le_bytes([bytes[at], bytes[at + 1]])
 }
 
 pub fn u32_at(bytes: &[u8], at: usize) -> u32
     requires { at + 4 ≤ length bytes.now }
     ensures { result ≡ number bytes.now at 4 }
 {
-    (u16_at(bytes, at) as u32) + 65536 * (u16_at(bytes, at + 2) as u32)
+    u32::from_le_bytes([bytes[at], bytes[at + 1], bytes[at + 2], bytes[at + 3]])
 }
 
 pub fn u64_at(bytes: &[u8], at: usize) -> u64
     requires { at + 8 ≤ length bytes.now }
     ensures { result ≡ number bytes.now at 8 }
 {
-    (u32_at(bytes, at) as u64) + 0x1_0000_0000 * (u32_at(bytes, at + 4) as u64)
+    u64::from_le_bytes([
+        bytes[at],
+        bytes[at + 1],
+        bytes[at + 2],
+        bytes[at + 3],
+        bytes[at + 4],
+        bytes[at + 5],
+        bytes[at + 6],
+        bytes[at + 7],
+    ])
 }
 
 // The sum of the bytes modulo 256, which is 0 for every table that is whole.

@@ -17,56 +17,23 @@ fn expect(left: u8, low: u8, high: u8) -> Option<Expected>
     Some(Expected { left, low, high })
 }
 
-// What is expected after a byte that begins a sequence, or nothing where none begins with it.
+// What is expected after a byte that begins a sequence, or nothing where none begins with it: the rows of the Unicode
+// Standard's Table 3-7.
 pub fn begin(b: u8) -> Option<Expected>
     ensures { meaning result ≡ following_in table b }
 {
-    if b < 0x80 {
-        return expect(0, 0x80, 0xbf);
+    match b {
+        0x00..=0x7f => expect(0, 0x80, 0xbf),
+        0xc2..=0xdf => expect(1, 0x80, 0xbf),
+        0xe0 => expect(2, 0xa0, 0xbf),
+        0xe1..=0xec => expect(2, 0x80, 0xbf),
+        0xed => expect(2, 0x80, 0x9f),
+        0xee..=0xef => expect(2, 0x80, 0xbf),
+        0xf0 => expect(3, 0x90, 0xbf),
+        0xf1..=0xf3 => expect(3, 0x80, 0xbf),
+        0xf4 => expect(3, 0x80, 0x8f),
+        _ => None,
     }
-    if b < 0xc2 {
-        return None;
-    }
-    if b < 0xe0 {
-        return expect(1, 0x80, 0xbf);
-    }
-    if b < 0xf0 {
-        return begin_three(b);
-    }
-    if b < 0xf5 {
-        return begin_four(b);
-    }
-    None
-}
-
-// The same for the first bytes of three and of four.
-fn begin_three(b: u8) -> Option<Expected>
-    requires { (0xe0 ≤ b) × (b < 0xf0) }
-    ensures { meaning result ≡ following_in table b }
-{
-    if b == 0xe0 {
-        return expect(2, 0xa0, 0xbf);
-    }
-    if b < 0xed {
-        return expect(2, 0x80, 0xbf);
-    }
-    if b == 0xed {
-        return expect(2, 0x80, 0x9f);
-    }
-    expect(2, 0x80, 0xbf)
-}
-
-fn begin_four(b: u8) -> Option<Expected>
-    requires { (0xf0 ≤ b) × (b < 0xf5) }
-    ensures { meaning result ≡ following_in table b }
-{
-    if b == 0xf0 {
-        return expect(3, 0x90, 0xbf);
-    }
-    if b < 0xf4 {
-        return expect(3, 0x80, 0xbf);
-    }
-    expect(3, 0x80, 0x8f)
 }
 
 // What is expected after one byte more, or nothing where the bytes are not well formed.

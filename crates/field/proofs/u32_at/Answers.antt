@@ -1,6 +1,8 @@
--- `u32_at` meets its contract: a number is its two halves, by `number_add`.
-use Rattle.field.proofs.NumberLaws.{number_add}
+-- `u32_at` meets its contract: a number of 4 bytes, written out.
+use Rattle.std.proofs.Common.{arith, add_assoc}
+use Rattle.field.specs.Number.{number}
 use Rattle.field.proofs.u32_at.Goals as goal
 
 pub returns : goal.returns
-returns c = cc (number_add 2 2 c.args.bytes.now c.args.at)
+unfolding number
+returns c = simp add_assoc (omega (arith, c.from_le_bytes.ensures))

@@ -1,6 +1,8 @@
--- `u64_at` meets its contract: a number is its two halves, by `number_add`.
-use Rattle.field.proofs.NumberLaws.{number_add}
+-- `u64_at` meets its contract: a number of 8 bytes, written out.
+use Rattle.std.proofs.Common.{arith, add_assoc}
+use Rattle.field.specs.Number.{number}
 use Rattle.field.proofs.u64_at.Goals as goal
 
 pub returns : goal.returns
-returns c = cc (number_add 4 4 c.args.bytes.now c.args.at)
+unfolding number
+returns c = simp add_assoc (omega (arith, c.from_le_bytes.ensures))
