@@ -1,11 +1,14 @@
 // Reads numbers, sums and text out of slices of bytes. Every other crate reads through these functions.
 #![tactic(auto)]
 
+mod utf8;
+
 ghost use Rattle.std.specs.Prelude.{◌≡◌, ◌+◌, ◌%◌, ◌<◌, ◌≤◌, length, sum};
 ghost use Rattle.field.specs.Number.{number};
 ghost use Rattle.field.specs.Text.{text};
 
-// The numbers of one, two, four and eight bytes at an offset, lowest byte first.
+// The numbers of one, two, four and eight bytes at an offset, lowest byte first. Each width has a type of its own, whose
+// method from_le_bytes does the work, so a trait over the four would only say these lines again.
 pub fn u8_at(bytes: &[u8], at: usize) -> u8
     requires { at + 1 ≤ length bytes.now }
     ensures { result ≡ number bytes.now at 1 }
@@ -49,8 +52,6 @@ pub fn sum(bytes: &[u8]) -> u8
 {
     bytes.iter().fold(0, |total: u8, b| total.wrapping_add(*b))
 }
-
-mod utf8;
 
 // Whether the bytes are UTF-8.
 pub fn is_text(bytes: &[u8]) -> bool
