@@ -1,5 +1,7 @@
 -- Laws about places and views: the theorems of specs/Statements, and what the crates above use.
-use Rattle.std.proofs.Common.{ℕ, zero, suc, ◌+◌, ◌-◌, ◌*◌, ◌≤◌, ◌<◌, min, ◌≡◌, refl, ap, ap₂, sym, ◌∙◌, List, [], ◌∷◌, ◌++◌, Bool, true, false, ◌⊎◌, ⊎_elim, arith, length, get_or, take, drop, set, length-take, length-drop, take-take, take_all, get_or-drop, ext_get_or, drop-set-lt}
+use Rattle.std.proofs.Common.{ℕ, zero, suc, ◌+◌, ◌-◌, ◌*◌, ◌≤◌, ◌<◌, min, ◌≡◌, refl, ap, sym, ◌∙◌, List, [], ◌∷◌, ◌++◌, Bool, true, false, ◌⊎◌, ⊎_elim, arith, length, get_or, take, drop, set, length-take, length-drop, take-take, take_all, get_or-drop, ext_get_or, drop-set-lt}
+use Rattle.std.specs.Prelude.{Option, Some, None}
+use Rattle.std.proofs.lemmas.Option.{same_Some, none-some}
 use native.Mathlib.Decide.{dec_le}
 use lib.Seq.{drop-set-add, take-set-le}
 use Rattle.field.specs.Part.{part}
@@ -11,35 +13,35 @@ use Rattle.memory.specs.Statements.{OneHolder, InsideTheSlice, InsideOneRange, R
 use Rattle.memory.specs.Walk.{range_at}
 use Rattle.memory.specs.declared.Range.{Range}
 use Rattle.memory.specs.declared.Place.{Place}
-use Rattle.memory.specs.declared.Place.TheVariants.{At, Unmapped}
 use Rattle.memory.proofs.TestLaws.{and_left, and_right}
 use Rattle.memory.proofs.RangeLaws.{ranges_step, right_inside, right_ordered, inside_slice, follows_end, holds_start, holds_len, holds_yes, holds_above, holds_below}
 
 -- A place that was found is that in a range of the list that holds the address.
-pub record Found (rs : List Range) (p offset room : ℕ) : Type 0 where
+pub record Found (rs : List Range) (p : ℕ) (place : Place) : Type 0 where
   pub before : List Range
   pub range : Range
   pub after : List Range
   pub listed : rs ≡ before ++ range ∷ after
   pub held : holds range p ≡ true
-  pub place : place_in range p ≡ At offset room
+  pub there : place_in range p ≡ place
 
-place_found : (rs : List Range) (p offset room : ℕ) → place_of rs p ≡ At offset room → Found rs p offset room
+place_found : (rs : List Range) (p : ℕ) (place : Place) → place_of rs p ≡ Some place → Found rs p place
 unfolding place_of
-place_found [] p offset room e = absurd (let z : ◌≡◌ {A = ℕ} 0 1 = cc in omega arith)
-place_found (r ∷ rs) p offset room e = go (holds r p) refl (place_found rs p offset room)
+place_found [] p place e = absurd (none-some place e)
+place_found (r ∷ rs) p place e = go (holds r p) refl (place_found rs p place)
   where
-    go : (t : Bool) → holds r p ≡ t → (place_of rs p ≡ At offset room → Found rs p offset room) → Found (r ∷ rs) p offset room
-    go true h later = record { before = []; range = r; after = rs; listed = refl; held = h; place = sym (when_hit _ _ _ h) ∙ e }
+    go : (t : Bool) → holds r p ≡ t → (place_of rs p ≡ Some place → Found rs p place) → Found (r ∷ rs) p place
+    go true h later =
+        record { before = []; range = r; after = rs; listed = refl; held = h; there = same_Some _ _ (sym (when_hit _ _ _ h) ∙ e) }
     go false h later =
-        let f = later (sym (when_pass _ (place_in r p) _ h) ∙ e) in
+        let f = later (sym (when_pass _ (Some (place_in r p)) _ h) ∙ e) in
         record {
           before = r ∷ f.before;
           range = f.range;
           after = f.after;
           listed = ap (λ (l : List Range). r ∷ l) f.listed;
           held = f.held;
-          place = f.place;
+          there = f.there;
         }
 
 -- Each range of a list whose ranges are all inside is.
@@ -49,30 +51,31 @@ member_inside size [] after r e = and_left _ (all_inside size after) e
 member_inside size (b ∷ before) after r e = member_inside size before after r (and_right (inside size b) _ e)
 
 -- What `place_in` says, as numbers.
-record Numbers (r : Range) (p offset room : ℕ) : Type 0 where
-  pub at : r.offset + (p - r.start) ≡ offset
-  pub left : r.len - (p - r.start) ≡ room
+record Numbers (r : Range) (p : ℕ) (place : Place) : Type 0 where
+  pub at : r.offset + (p - r.start) ≡ place.offset
+  pub left : r.len - (p - r.start) ≡ place.room
 
-numbers : (r : Range) (p offset room : ℕ) → place_in r p ≡ At offset room → Numbers r p offset room
+numbers : (r : Range) (p : ℕ) (place : Place) → place_in r p ≡ place → Numbers r p place
 unfolding place_in
-numbers r p offset room e = record { at = cc; left = cc }
+numbers r p place e = record { at = ap (λ (q : Place). q.offset) e; left = ap (λ (q : Place). q.room) e }
 
 -- And the other way round.
-place_of_numbers : (r : Range) (p offset room : ℕ) → r.offset + (p - r.start) ≡ offset → r.len - (p - r.start) ≡ room → place_in r p ≡ At offset room
+place_of_numbers : (r : Range) (p offset room : ℕ) → r.offset + (p - r.start) ≡ offset → r.len - (p - r.start) ≡ room
+    → place_in r p ≡ record { offset = offset; room = room }
 unfolding place_in
-place_of_numbers r p offset room at left = ap₂ At at left
+place_of_numbers r p offset room at left = λ i. record { offset = at i; room = left i }
 
 pub inside_the_slice : InsideTheSlice
-inside_the_slice size words p offset room e q =
-    let f = place_found (ranges_of words) p offset room q in
-    let n = numbers f.range p offset room f.place in
+inside_the_slice size words p place e q =
+    let f = place_found (ranges_of words) p place q in
+    let n = numbers f.range p place f.there in
     let i = inside_slice size f.range (member_inside size f.before f.after f.range (ap (all_inside size) (sym f.listed) ∙ right_inside size words e)) in
     omega (arith, holds_len f.range p f.held)
 
 pub inside_one_range : InsideOneRange
-inside_one_range words p offset room q =
-    let f = place_found (ranges_of words) p offset room q in
-    let n = numbers f.range p offset room f.place in
+inside_one_range words p place q =
+    let f = place_found (ranges_of words) p place q in
+    let n = numbers f.range p place f.there in
     let h = holds_start f.range p f.held in
     let k = holds_len f.range p f.held in
     record {
@@ -108,7 +111,7 @@ place_passed (b ∷ before) after r p e h =
     ∙ place_passed before after r p (ordered_tail b (before ++ r ∷ after) e) h
 
 one_holder_in : (before after : List Range) (r : Range) (p : ℕ) → ordered (before ++ r ∷ after) ≡ true → holds r p ≡ true
-    → place_of (before ++ r ∷ after) p ≡ place_in r p
+    → place_of (before ++ r ∷ after) p ≡ Some (place_in r p)
 unfolding place_of
 one_holder_in before after r p e h = place_passed before after r p e (holds_start r p h) ∙ when_hit _ _ _ h
 
@@ -118,7 +121,7 @@ one_holder size words before after r p e listed h =
     ∙ one_holder_in before after r p (ap ordered (sym listed) ∙ right_ordered size words e) h
 
 -- In an ordered list that starts above the address no range holds it.
-starts_above : (r : Range) (rs : List Range) (p : ℕ) → ordered (r ∷ rs) ≡ true → p < r.start → place_of (r ∷ rs) p ≡ Unmapped
+starts_above : (r : Range) (rs : List Range) (p : ℕ) → ordered (r ∷ rs) ≡ true → p < r.start → place_of (r ∷ rs) p ≡ None
 unfolding place_of ordered
 starts_above r [] p e h = when_pass _ _ _ (holds_above r p h)
 starts_above r (s ∷ rs) p e h =
@@ -164,32 +167,34 @@ place_from size words n p e h k =
 
 -- Where it starts above the address, neither it nor one behind it holds the address.
 pub place_above : (size : ℕ) (words : List ℕ) (n p : ℕ) → right size words ≡ true → 3 * n + 3 ≤ length words
-    → p < (range_at words (3 * n)).start → place_of (ranges_of (drop (3 * n) words)) p ≡ Unmapped
+    → p < (range_at words (3 * n)).start → place_of (ranges_of (drop (3 * n) words)) p ≡ None
 place_above size words n p e h k =
     let l = listed_from words 0 n (3 * n) (omega arith) h in
     ap (λ (rs : List Range). place_of rs p) (ranges_step words (3 * n) h)
     ∙ starts_above (range_at words (3 * n)) _ p (ordered_after l.before _ (ap ordered (sym l.listed) ∙ right_ordered size words e)) k
 
 -- The view at a place is that part of the slice.
-pub view_at : (image words : List ℕ) (p offset room : ℕ) → place_of (ranges_of words) p ≡ At offset room → view_of image words p ≡ part image offset room
+pub view_at : (image words : List ℕ) (p : ℕ) (place : Place) → place_of (ranges_of words) p ≡ Some place
+    → view_of image words p ≡ part image place.offset place.room
 unfolding view_of bytes_at
-view_at image words p offset room q = ap (bytes_at image) q
+view_at image words p place q = ap (bytes_at image) q
 
-pub view_none : (image words : List ℕ) (p : ℕ) → place_of (ranges_of words) p ≡ Unmapped → view_of image words p ≡ []
+pub view_none : (image words : List ℕ) (p : ℕ) → place_of (ranges_of words) p ≡ None → view_of image words p ≡ []
 unfolding view_of bytes_at
 view_none image words p q = ap (bytes_at image) q
 
 -- In a right list the view has all the room of its place.
-pub view_room : (image words : List ℕ) (p offset room : ℕ) → right (length image) words ≡ true → place_of (ranges_of words) p ≡ At offset room
-    → length (view_of image words p) ≡ room
-view_room image words p offset room e q =
-    ap length (view_at image words p offset room q) ∙ part_length image offset room (inside_the_slice (length image) words p offset room e q)
+pub view_room : (image words : List ℕ) (p : ℕ) (place : Place) → right (length image) words ≡ true → place_of (ranges_of words) p ≡ Some place
+    → length (view_of image words p) ≡ place.room
+view_room image words p place e q =
+    ap length (view_at image words p place q) ∙ part_length image place.offset place.room (inside_the_slice (length image) words p place e q)
 
 pub readable_if_held : ReadableIfHeld
+unfolding place_in
 readable_if_held image words before after r p n e listed h k =
     let held = holds_yes r p h (omega arith) in
     let q = one_holder (length image) words before after r p e listed held in
-    omega (arith, view_room image words p (r.offset + (p - r.start)) (r.len - (p - r.start)) e (q ∙ unfold place_in in refl))
+    omega (arith, view_room image words p (place_in r p) e q)
 
 -- All but the first d bytes of a part are the part that begins d later and has d fewer.
 part_drop : (s : List ℕ) (at n d : ℕ) → drop d (part s at n) ≡ part s (at + d) (n - d)
@@ -212,28 +217,28 @@ pub view_rest : (image words : List ℕ) (p d : ℕ) → right (length image) wo
     → view_of image words (p + d) ≡ drop d (view_of image words p)
 view_rest image words p d e h = go (place_of (ranges_of words) p) refl
   where
-    go : (place : Place) → place_of (ranges_of words) p ≡ place → view_of image words (p + d) ≡ drop d (view_of image words p)
-    go (At offset room) q =
-        let w = inside_one_range words p offset room q in
+    go : (found : Option Place) → place_of (ranges_of words) p ≡ found → view_of image words (p + d) ≡ drop d (view_of image words p)
+    go (Some place) q =
+        let w = inside_one_range words p place q in
         let r = w.range in
-        let l = view_room image words p offset room e q in
+        let l = view_room image words p place e q in
         let starts = w.starts in
         let ends = w.ends in
         let stands = w.stands in
+        let rest : Place = record { offset = place.offset + d; room = place.room - d } in
         let held = holds_yes r (p + d) (omega arith) (omega arith) in
-        let here = place_of_numbers r (p + d) (offset + d) (room - d) (omega arith) (omega arith) in
-        let place = one_holder (length image) words w.before w.after r (p + d) e w.listed held ∙ here in
-        view_at image words (p + d) (offset + d) (room - d) place
-        ∙ sym (part_drop image offset room d)
-        ∙ ap (drop d) (sym (view_at image words p offset room q))
-    go Unmapped q = absurd (omega (arith, ap length (view_none image words p q)))
+        let here = place_of_numbers r (p + d) rest.offset rest.room (omega arith) (omega arith) in
+        view_at image words (p + d) rest (one_holder (length image) words w.before w.after r (p + d) e w.listed held ∙ ap Some here)
+        ∙ sym (part_drop image place.offset place.room d)
+        ∙ ap (drop d) (sym (view_at image words p place q))
+    go None q = absurd (omega (arith, ap length (view_none image words p q)))
 
 -- How long a view is depends on how long the slice is, and not on its bytes.
-place_length_same : (image image' : List ℕ) (place : Place) → length image ≡ length image'
+place_length_same : (image image' : List ℕ) (place : Option Place) → length image ≡ length image'
     → length (bytes_at image place) ≡ length (bytes_at image' place)
 unfolding bytes_at part
-place_length_same image image' (At offset room) e = simp (length-take, length-drop) (ap (λ (n : ℕ). min room (n - offset)) e)
-place_length_same image image' Unmapped e = refl
+place_length_same image image' (Some place) e = simp (length-take, length-drop) (ap (λ (n : ℕ). min place.room (n - place.offset)) e)
+place_length_same image image' None e = refl
 
 pub view_length_same : (image image' words : List ℕ) (p : ℕ) → length image ≡ length image'
     → length (view_of image words p) ≡ length (view_of image' words p)
@@ -268,12 +273,12 @@ part_stays image offset room n j b outside =
     outside
     ∙ sym (take_min n room (drop offset image))
 
-place_stays : (image : List ℕ) (place : Place) (n j b : ℕ)
-    → ((offset room : ℕ) → place ≡ At offset room → (j < offset) ⊎ (offset + min n room ≤ j))
-    → take n (bytes_at (set image j b) place) ≡ take n (bytes_at image place)
+place_stays : (image : List ℕ) (found : Option Place) (n j b : ℕ)
+    → ((place : Place) → found ≡ Some place → (j < place.offset) ⊎ (place.offset + min n place.room ≤ j))
+    → take n (bytes_at (set image j b) found) ≡ take n (bytes_at image found)
 unfolding bytes_at
-place_stays image (At offset room) n j b elsewhere = part_stays image offset room n j b (elsewhere offset room refl)
-place_stays image Unmapped n j b elsewhere = refl
+place_stays image (Some place) n j b elsewhere = part_stays image place.offset place.room n j b (elsewhere place refl)
+place_stays image None n j b elsewhere = refl
 
 pub other_bytes_stay : OtherBytesStay
 unfolding view_of

@@ -7,7 +7,7 @@ use Rattle.memory.specs.Ranges.{ranges_of, most_ranges, inside, all_inside, foll
 use Rattle.memory.specs.Walk.{range_at}
 use Rattle.memory.specs.Places.{holds, place_in, place_of}
 use Rattle.memory.specs.declared.Range.{Range}
-use Rattle.memory.specs.declared.Place.TheVariants.{Unmapped}
+use Rattle.std.specs.Prelude.{Some, None}
 use Rattle.field.proofs.FirstLaws.{when_hit, when_pass}
 use Rattle.memory.proofs.TestLaws.{and_yes, and_first, and_second, and_left, and_right}
 
@@ -120,7 +120,7 @@ order_end words i h =
 
 -- The place of an address: in the range at hand, or in the ranges behind it, or nowhere.
 pub place_here : (words : List ℕ) (i p : ℕ) → i + 3 ≤ length words → holds (range_at words i) p ≡ true
-    → place_of (ranges_of (drop i words)) p ≡ place_in (range_at words i) p
+    → place_of (ranges_of (drop i words)) p ≡ Some (place_in (range_at words i) p)
 unfolding place_of
 place_here words i p h e = rw (ranges_step words i h) (when_hit _ _ _ e)
 
@@ -129,7 +129,7 @@ pub place_later : (words : List ℕ) (i p : ℕ) → i + 3 ≤ length words → 
 unfolding place_of
 place_later words i p h e = rw (ranges_step words i h) (when_pass _ _ _ e)
 
-pub place_end : (words : List ℕ) (i p : ℕ) → length words < i + 3 → place_of (ranges_of (drop i words)) p ≡ Unmapped
+pub place_end : (words : List ℕ) (i p : ℕ) → length words < i + 3 → place_of (ranges_of (drop i words)) p ≡ None
 unfolding place_of
 place_end words i p h = rw (ranges_end words i h)
 

@@ -1,11 +1,10 @@
 -- Where a physical address stands in the slice (docs/TABLES.md, "Memory").
-use Rattle.std.specs.Prelude.{ℕ, ◌+◌, ◌-◌, ◌≤◌, ◌<◌, min, ◌≡◌, ◌⊎◌, List, [], ◌∷◌, Bool, ◌&&◌, nat_le, nat_lt}
+use Rattle.std.specs.Prelude.{ℕ, ◌+◌, ◌-◌, ◌≤◌, ◌<◌, min, ◌≡◌, ◌⊎◌, List, [], ◌∷◌, Bool, ◌&&◌, nat_le, nat_lt, Option, Some, None}
 use Rattle.field.specs.First.{when}
 use Rattle.field.specs.Part.{part}
 use Rattle.memory.specs.Ranges.{ranges_of}
 use Rattle.memory.specs.declared.Range.{Range}
 use Rattle.memory.specs.declared.Place.{Place}
-use Rattle.memory.specs.declared.Place.TheVariants.{At, Unmapped}
 
 -- the range has the byte at the physical address p
 unfoldable pub holds : Range → ℕ → Bool
@@ -13,16 +12,16 @@ holds r p = nat_le r.start p && nat_lt (p - r.start) r.len
 
 -- its offset in the slice, and how many bytes the range has from there on
 unfoldable pub place_in : Range → ℕ → Place
-place_in r p = At (r.offset + (p - r.start)) (r.len - (p - r.start))
+place_in r p = record { offset = r.offset + (p - r.start); room = r.len - (p - r.start) }
 
 -- the place of p in the first range that holds it
-unfoldable pub place_of : List Range → ℕ → Place
-place_of [] p = Unmapped
-place_of (r ∷ rs) p = when (holds r p) (place_in r p) (place_of rs p)
+unfoldable pub place_of : List Range → ℕ → Option Place
+place_of [] p = None
+place_of (r ∷ rs) p = when (holds r p) (Some (place_in r p)) (place_of rs p)
 
-unfoldable pub bytes_at : List ℕ → Place → List ℕ
-bytes_at image (At offset room) = part image offset room
-bytes_at image Unmapped = []
+unfoldable pub bytes_at : List ℕ → Option Place → List ℕ
+bytes_at image (Some place) = part image place.offset place.room
+bytes_at image None = []
 
 -- The view from p: all bytes from p to the end of its range, none where p is not mapped. n bytes at p can be read if the
 -- view has n bytes or more.
@@ -31,4 +30,5 @@ view_of image words p = bytes_at image (place_of (ranges_of words) p)
 
 -- The byte at offset j of the slice is none of the first n bytes that can be read from p on.
 abbrev pub Elsewhere : List ℕ → ℕ → ℕ → ℕ → Type 0
-Elsewhere words p n j = (offset room : ℕ) → place_of (ranges_of words) p ≡ At offset room → (j < offset) ⊎ (offset + min n room ≤ j)
+Elsewhere words p n j =
+    (place : Place) → place_of (ranges_of words) p ≡ Some place → (j < place.offset) ⊎ (place.offset + min n place.room ≤ j)

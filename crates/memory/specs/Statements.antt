@@ -1,36 +1,37 @@
 -- What is shown of ranges and places beside the contracts.
-use Rattle.std.specs.Prelude.{ℕ, suc, ◌+◌, ◌≤◌, ◌<◌, ◌≡◌, List, ◌∷◌, ◌++◌, true, length, take, set}
+use Rattle.std.specs.Prelude.{ℕ, suc, ◌+◌, ◌≤◌, ◌<◌, ◌≡◌, List, ◌∷◌, ◌++◌, true, length, take, set, Some}
 use Rattle.memory.specs.Ranges.{ranges_of, right}
 use Rattle.memory.specs.Places.{holds, place_in, place_of, view_of, Elsewhere}
 use Rattle.memory.specs.declared.Range.{Range}
-use Rattle.memory.specs.declared.Place.TheVariants.{At}
+use Rattle.memory.specs.declared.Place.{Place}
 
 -- In a right list the first range that holds an address is the one that holds it: any that does gives the place.
 abbrev pub OneHolder : Type 0
 OneHolder =
     (size : ℕ) (words : List ℕ) (before after : List Range) (r : Range) (p : ℕ)
     → right size words ≡ true → ranges_of words ≡ before ++ r ∷ after → holds r p ≡ true
-    → place_of (ranges_of words) p ≡ place_in r p
+    → place_of (ranges_of words) p ≡ Some (place_in r p)
 
 -- What is located lies inside the slice.
 abbrev pub InsideTheSlice : Type 0
 InsideTheSlice =
-    (size : ℕ) (words : List ℕ) (p offset room : ℕ)
-    → right size words ≡ true → place_of (ranges_of words) p ≡ At offset room → offset + room ≤ size
+    (size : ℕ) (words : List ℕ) (p : ℕ) (place : Place)
+    → right size words ≡ true → place_of (ranges_of words) p ≡ Some place → place.offset + place.room ≤ size
 
 -- What is located lies inside one range, which holds the address: the place is so far into it, and has the rest of it.
-pub record Within (words : List ℕ) (p offset room : ℕ) : Type 0 where
+pub record Within (words : List ℕ) (p : ℕ) (place : Place) : Type 0 where
   pub before : List Range
   pub range : Range
   pub after : List Range
   pub listed : ranges_of words ≡ before ++ range ∷ after
   pub starts : range.start ≤ p
-  pub ends : p + room ≡ range.start + range.len
-  pub stands : offset + range.start ≡ range.offset + p
-  pub some : 0 < room
+  pub ends : p + place.room ≡ range.start + range.len
+  pub stands : place.offset + range.start ≡ range.offset + p
+  pub some : 0 < place.room
 
 abbrev pub InsideOneRange : Type 0
-InsideOneRange = (words : List ℕ) (p offset room : ℕ) → place_of (ranges_of words) p ≡ At offset room → Within words p offset room
+InsideOneRange =
+    (words : List ℕ) (p : ℕ) (place : Place) → place_of (ranges_of words) p ≡ Some place → Within words p place
 
 -- n bytes can be read at p exactly if one range holds all n.
 abbrev pub ReadableIfHeld : Type 0

@@ -2,10 +2,12 @@
 // Addresses are compared and subtracted, and never added to before a range is found.
 #![tactic(auto)]
 
-ghost use Rattle.std.specs.Prelude.{◌≡◌, true, ◌+◌, ◌^◌, ◌≤◌, ◌<◌, length};
+ghost use Rattle.std.specs.Prelude.{◌≡◌, true, false, ◌+◌, ◌^◌, ◌≤◌, ◌<◌, length, IfOk, IfErr};
 ghost use Rattle.memory.specs.Ranges.{ranges_of, inside, all_inside, follows, ordered, right};
 ghost use Rattle.memory.specs.Places.{holds, place_in, place_of, view_of};
 ghost use Rattle.memory.specs.Walk.{range_at};
+
+use refusal::Refusal;
 
 const MOST_RANGES: usize = 64;
 
@@ -19,9 +21,9 @@ pub struct Range {
 
 // Where an address stands: its offset in the slice, and how many bytes its range has from there on.
 #[derive(Clone, Copy)]
-pub enum Place {
-    At(usize, usize),
-    Unmapped,
+pub struct Place {
+    pub offset: usize,
+    pub room: usize,
 }
 
 // The range whose three numbers begin at place i of the list.
@@ -137,38 +139,62 @@ fn place_in(r: Range, p: u64) -> Place
     ensures { result ≡ place_in r p }
 {
     let into = p - r.start;
-    Place::At((r.offset + into) as usize, (r.len - into) as usize)
-}
-
-// Where the address stands, if a range holds it. The ranges ascend, so each look halves those that can hold it.
-pub fn locate(image: &[u8], ranges: &[u64], p: u64) -> Place
-    requires { right (length image.now) ranges.now ≡ true }
-    ensures { result ≡ place_of (ranges_of ranges.now) p }
-{
-    let mut low = 0;
-    let mut high = ranges.len() / 3;
-    while low < high {
-        let middle = low + (high - low) / 2;
-        let r = range_at(ranges, 3 * middle);
-        if p < r.start {
-            high = middle;
-            continue;
-        }
-        if has(r, p) {
-            return place_in(r, p);
-        }
-        low = middle + 1;
+    Place {
+        offset: (r.offset + into) as usize,
+        room: (r.len - into) as usize,
     }
-    Place::Unmapped
 }
 
-// All bytes from the address to the end of its range; none where no range holds it.
-pub fn view<'a>(image: &'a [u8], ranges: &[u64], p: u64) -> &'a [u8]
-    requires { right (length image.now) ranges.now ≡ true }
-    ensures { result.now ≡ view_of image.now ranges.now p }
-{
-    match locate(image, ranges, p) {
-        Place::At(offset, room) => &image[offset..offset + room],
-        Place::Unmapped => &image[..0],
+// Memory as it is lent: the slice, with a list of ranges that is right for it. Every question about addresses is asked of it.
+#[derive(Clone, Copy)]
+pub struct Memory<'a> {
+    pub image: &'a [u8],
+    pub ranges: &'a [u64],
+    pub ghost right_ranges: { right (length image.now) ranges.now ≡ true },
+}
+
+impl<'a> Memory<'a> {
+    // The slice with its list of ranges, unless the list is wrong.
+    pub fn new(image: &'a [u8], ranges: &'a [u64]) -> Result<Memory<'a>, Refusal>
+        ensures lent { IfOk result (λ memory. (memory.image.now ≡ image.now) × (memory.ranges.now ≡ ranges.now)) }
+        ensures wrong { IfErr result (λ refusal. (refusal ≡ Refusal.WrongRanges) × (right (length image.now) ranges.now ≡ false)) }
+    {
+        if is_right(image, ranges) {
+            Ok(Memory { image, ranges })
+        } else {
+            Err(Refusal::WrongRanges)
+        }
+    }
+
+    // Where the address stands, if a range holds it. The ranges ascend, so each look halves those that can hold it.
+    pub fn locate(self, p: u64) -> Option<Place>
+        ensures { result ≡ place_of (ranges_of self.entry.ranges.now) p }
+    {
+        let ranges = self.ranges;
+        let mut low = 0;
+        let mut high = ranges.len() / 3;
+        while low < high {
+            let middle = low + (high - low) / 2;
+            let r = range_at(ranges, 3 * middle);
+            if p < r.start {
+                high = middle;
+                continue;
+            }
+            if has(r, p) {
+                return Some(place_in(r, p));
+            }
+            low = middle + 1;
+        }
+        None
+    }
+
+    // All bytes from the address to the end of its range; none where no range holds it.
+    pub fn view(self, p: u64) -> &'a [u8]
+        ensures { result.now ≡ view_of self.entry.image.now self.entry.ranges.now p }
+    {
+        match self.locate(p) {
+            Some(Place { offset, room }) => &self.image[offset..offset + room],
+            None => &self.image[..0],
+        }
     }
 }
