@@ -2,5 +2,6 @@
 pub mod Ranges
 pub mod Places
 pub mod Pieces
+pub mod Asked
 pub mod Walk
 pub mod Statements

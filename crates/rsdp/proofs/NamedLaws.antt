@@ -1,5 +1,5 @@
 -- Laws about the bytes that count: an answer is the same in two images that agree on the bytes it names.
-use Rattle.std.proofs.Common.{ℕ, ◌+◌, ◌≤◌, ◌≡◌, ap, ap₂, sym, ◌∙◌, List, [], ◌∷◌, ◌++◌, map, not, arith, length, take, set, length-set, take-take}
+use Rattle.std.proofs.Common.{ℕ, ◌+◌, ◌≤◌, ◌≡◌, ap, ap₂, sym, ◌∙◌, List, [], ◌∷◌, ◌++◌, map, arith, length, take, set, length-set, take-take}
 use native.Mathlib.Decide.{ℕ_discrete, dec_le}
 use Rattle.field.specs.First.{less, differ, when}
 use Rattle.field.specs.Number.{number}
@@ -10,17 +10,19 @@ use Rattle.field.proofs.FirstLaws.{differ_yes, differ_no, when_hit, when_pass}
 use Rattle.field.proofs.NumberLaws.{number_take}
 use Rattle.field.proofs.PartLaws.{part_of_take}
 use Rattle.field.proofs.ChoiceLaws.{only_looked_at, all_map}
-use Rattle.memory.specs.Ranges.{right}
 use Rattle.memory.specs.Places.{view_of}
 use Rattle.memory.specs.Pieces.{AgreeOn}
 use Rattle.memory.proofs.PlaceLaws.{view_length_same, other_bytes_stay}
+use Rattle.memory.proofs.AskedLaws.{same_asked}
 use Rattle.memory.proofs.PieceLaws.{others_agree, not_mapped_outside}
-use Rattle.rsdp.specs.Pointer.{revision_of, needed_of, summed_of, wrong_sum, pointer_reasons, pointer_refusal, pointer_of, answered, root_pointer_of}
-use Rattle.rsdp.specs.Search.{candidates, segment_of, second_area, searched, refusal_at, found, search_of}
+use Rattle.rsdp.specs.Pointer.{revision_of, needed_of, summed_of, wrong_sum, pointer_reasons, pointer_checked, pointer_of, root_pointer_of}
+use Rattle.rsdp.specs.Search.{candidates, segment_of, second_area, searched, checked_at, search_of}
 use Rattle.rsdp.specs.Asked.{root_pointer_at, search_asked}
 use Rattle.rsdp.specs.Statements.{PointerBytes, named_pointer, named_search, PointerAtBytes, SearchBytes, PointerOthersStay, SearchOthersStay, PointerMappedOnly, SearchMappedOnly}
-use Rattle.rsdp.specs.declared.RootPointer.TheVariants.{Refused}
-use Rattle.rsdp.specs.declared.Search.{Search}
+use Rattle.std.specs.Prelude.{Option, Ok}
+use Rattle.std.specs.Option.{ok_or}
+use Rattle.refusal.specs.declared.Refusal.TheVariants.{PointerNotFound}
+use Rattle.field.specs.Then.{and_then}
 use Rattle.rsdp.proofs.PointerLaws.{needed_least, needed_later, summed_within, sum_long}
 
 -- What lies inside the first k bytes is the same where those are: fewer bytes, a number, a part.
@@ -71,9 +73,9 @@ module _ (v v' : List ℕ) (e : take (needed_of v) v ≡ take (needed_of v) v') 
       ]
 
   -- Every test of the list of reasons is the same.
-  pub same_refusal : length v ≡ length v' → pointer_refusal v ≡ pointer_refusal v'
-  unfolding pointer_refusal pointer_reasons
-  same_refusal l =
+  pub same_check : length v ≡ length v' → pointer_checked v ≡ pointer_checked v'
+  unfolding pointer_checked pointer_reasons
+  same_check l =
       let signature = same_number (needed_of v) v v' e 0 8 (omega (arith, needed_least v)) in
       let maker = same_part (needed_of v) v v' e 9 6 (omega (arith, needed_least v)) in
       rw (l, same_needed, signature, maker, same_sum)
@@ -86,24 +88,24 @@ module _ (v v' : List ℕ) (e : take (needed_of v) v ≡ take (needed_of v) v') 
       let xsdt = same_later 24 8 0 (omega arith) in
       λ i. record { revision = same_revision i; length = same_summed i; rsdt_address = rsdt i; xsdt_address = xsdt i }
 
--- The refusal and what a valid root pointer says are each the same.
+-- The check and what a valid root pointer says are each the same.
 pub pointer_bytes : PointerBytes
 unfolding root_pointer_of
-pointer_bytes v v' l e = ap₂ answered (same_refusal v v' e l) (same_pointer v v' e)
+pointer_bytes v v' l e = ap₂ (λ r p. and_then r (λ _. Ok p)) (same_check v v' e l) (same_pointer v v' e)
 
 -- At an address the view is as long in both images, and the list of ranges is as right.
 pub pointer_at_bytes : PointerAtBytes
 unfolding root_pointer_at
 pointer_at_bytes image image' words address l agree =
     let pointers = pointer_bytes (view_of image words address) (view_of image' words address) (view_length_same image image' words address l) agree in
-    ap₂ (λ (n : ℕ) r. when (not (right n words)) (Refused 1) r) l pointers
+    same_asked image image' words l pointers
 
--- What is refused at an address is the same where the root pointer's bytes are.
-pub same_refusal_at : (image image' words : List ℕ) (p : ℕ) → length image ≡ length image'
-    → AgreeOn image image' words (named_pointer image words p) → refusal_at image words p ≡ refusal_at image' words p
-unfolding refusal_at
-same_refusal_at image image' words p l agree =
-    same_refusal (view_of image words p) (view_of image' words p) agree (view_length_same image image' words p l)
+-- The check at an address is the same where the root pointer's bytes are.
+pub same_check_at : (image image' words : List ℕ) (p : ℕ) → length image ≡ length image'
+    → AgreeOn image image' words (named_pointer image words p) → checked_at image words p ≡ checked_at image' words p
+unfolding checked_at
+same_check_at image image' words p l agree =
+    same_check (view_of image words p) (view_of image' words p) agree (view_length_same image image' words p l)
 
 -- The word at 40e decides which addresses are searched.
 same_segment : (v v' : List ℕ) → length v ≡ length v' → take 2 v ≡ take 2 v' → segment_of v ≡ segment_of v'
@@ -121,14 +123,14 @@ pub all_of_map : {A B : Type 0} {P : B → Type 0} (f : A → B) (ps : List A) �
 all_of_map f [] none = none
 all_of_map f (p ∷ ps) (with h a) = with h (all_of_map f ps a)
 
--- The same addresses are searched, and each at which the search looks is refused for the same reason.
+-- The same addresses are searched, and the check of each at which the search looks is the same.
 pub search_bytes : SearchBytes
 unfolding search_asked search_of named_search
 search_bytes image image' words l (with word agree) =
-    let refusals = all_map (λ (p : ℕ). same_refusal_at image image' words p l) (all_of_map (named_pointer image words) _ agree) in
-    let looked = only_looked_at (refusal_at image words) (refusal_at image' words) 0 (searched image words) refusals in
-    let listed = ap (nth_valid (refusal_at image' words) 0) (same_searched image image' words l word) in
-    ap₂ (λ (n : ℕ) c. when (not (right n words)) (Search.Refused 1) (found c)) l (looked ∙ listed)
+    let checks = all_map (λ (p : ℕ). same_check_at image image' words p l) (all_of_map (named_pointer image words) _ agree) in
+    let looked = only_looked_at _ (checked_at image words) (checked_at image' words) 0 (searched image words) checks in
+    let listed = ap (nth_valid (checked_at image' words) 0) (same_searched image image' words l word) in
+    same_asked image image' words l (ap (λ (o : Option ℕ). ok_or o PointerNotFound) (looked ∙ listed))
 
 -- An image in which another byte is changed is as long, and agrees on the named bytes.
 pub pointer_others_stay : PointerOthersStay

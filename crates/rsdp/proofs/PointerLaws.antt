@@ -1,15 +1,16 @@
 -- Laws about the root pointer: what each finding of the reader makes of the answer, and on which bytes it depends.
-use Rattle.std.proofs.Common.{ℕ, zero, suc, ◌%◌, ◌≤◌, ◌<◌, ◌≡◌, refl, ap, sym, ◌∙◌, List, [], ◌∷◌, Bool, true, false, not, ◌||◌, arith, length, take}
+use Rattle.std.proofs.Common.{ℕ, ◌%◌, ◌≤◌, ◌<◌, ◌≡◌, refl, sym, ◌∙◌, List, [], ◌∷◌, Bool, true, false, not, ◌||◌, arith, length, take}
 use native.Mathlib.Decide.{ℕ_discrete}
-use Rattle.field.specs.First.{less, differ, when, ◌gives◌, first_number}
+use Rattle.field.specs.First.{less, differ, when, ◌gives◌, checked}
 use Rattle.field.specs.Number.{number}
 use Rattle.field.specs.Part.{part}
-use Rattle.field.specs.Sum.{sum}
+use Rattle.std.specs.Prelude.{sum, Result, Ok, Err}
+use Rattle.field.proofs.ThenLaws.{then_ok, then_err}
+use Rattle.refusal.specs.declared.Refusal.{Refusal}
+use Rattle.refusal.specs.declared.Refusal.TheVariants.{PointerNotMapped, WrongPointerSignature, WrongPointerOemId, WrongPointerChecksum}
 use Rattle.field.specs.Text.{text}
 use Rattle.field.proofs.FirstLaws.{less_yes, less_no, less_false, differ_yes, differ_no, when_hit, when_pass, hit, pass, clear, all_clear}
-use Rattle.rsdp.specs.Pointer.{rsd_ptr, revision_of, needed_of, summed_of, wrong_sum, pointer_reasons, pointer_refusal, pointer_of, answered, root_pointer_of}
-use Rattle.rsdp.specs.declared.Rsdp.{Rsdp}
-use Rattle.rsdp.specs.declared.RootPointer.TheVariants.{Valid, Refused}
+use Rattle.rsdp.specs.Pointer.{rsd_ptr, revision_of, needed_of, summed_of, wrong_sum, pointer_reasons, pointer_checked, pointer_of, root_pointer_of}
 
 -- The structure of ACPI 1.0, and the later one.
 pub needed_first : (v : List ℕ) → revision_of v ≡ 0 → needed_of v ≡ 20
@@ -56,52 +57,47 @@ sum_decides v h k = rw (less_no (summed_of v) 20 h, less_no 36 (summed_of v) k)
 
 -- What the reader finds, step by step, and what its answer then is.
 module _ (v : List ℕ) where
-  pub pointer_short : length v < 20 → pointer_refusal v ≡ 2
-  unfolding pointer_refusal pointer_reasons
-  pointer_short h = hit _ 2 _ (less_yes (length v) 20 h)
+  pub pointer_short : length v < 20 → pointer_checked v ≡ Err PointerNotMapped
+  unfolding pointer_checked pointer_reasons
+  pointer_short h = hit _ PointerNotMapped _ (less_yes (length v) 20 h)
 
   module _ (some : 20 ≤ length v) where
-    pub pointer_cut : length v < needed_of v → pointer_refusal v ≡ 2
-    unfolding pointer_refusal pointer_reasons
-    pointer_cut h = pass _ 2 _ (less_no (length v) 20 some) (hit _ 2 _ (less_yes (length v) (needed_of v) h))
+    pub pointer_cut : length v < needed_of v → pointer_checked v ≡ Err PointerNotMapped
+    unfolding pointer_checked pointer_reasons
+    pointer_cut h = pass _ PointerNotMapped _ (less_no (length v) 20 some) (hit _ PointerNotMapped _ (less_yes (length v) (needed_of v) h))
 
     module _ (all : needed_of v ≤ length v) where
       -- Past what is mapped the structure itself decides.
-      pointer_rest : {n : ℕ} → first_number ((differ (number v 0 8) rsd_ptr gives 3) ∷ (not (text (part v 9 6)) gives 4) ∷ (wrong_sum v gives 5) ∷ []) ≡ n
-          → pointer_refusal v ≡ n
-      unfolding pointer_refusal pointer_reasons
-      pointer_rest e = pass _ 2 _ (less_no (length v) 20 some) (pass _ 2 _ (less_no (length v) (needed_of v) all) e)
+      pointer_rest : {x : Result (Unit {0}) Refusal} → checked ((differ (number v 0 8) rsd_ptr gives WrongPointerSignature) ∷ (not (text (part v 9 6)) gives WrongPointerOemId) ∷ (wrong_sum v gives WrongPointerChecksum) ∷ []) ≡ x
+          → pointer_checked v ≡ x
+      unfolding pointer_checked pointer_reasons
+      pointer_rest e = pass _ PointerNotMapped _ (less_no (length v) 20 some) (pass _ PointerNotMapped _ (less_no (length v) (needed_of v) all) e)
 
-      pub pointer_signature : (number v 0 8 ≡ rsd_ptr → ⊥) → pointer_refusal v ≡ 3
-      pointer_signature h = pointer_rest (hit _ 3 _ (differ_yes (number v 0 8) rsd_ptr h))
+      pub pointer_signature : (number v 0 8 ≡ rsd_ptr → ⊥) → pointer_checked v ≡ Err WrongPointerSignature
+      pointer_signature h = pointer_rest (hit _ WrongPointerSignature _ (differ_yes (number v 0 8) rsd_ptr h))
 
-      pub pointer_maker : number v 0 8 ≡ rsd_ptr → not (text (part v 9 6)) ≡ true → pointer_refusal v ≡ 4
-      pointer_maker e t = pointer_rest (pass _ 3 _ (differ_no (number v 0 8) rsd_ptr e) (hit _ 4 _ t))
+      pub pointer_maker : number v 0 8 ≡ rsd_ptr → not (text (part v 9 6)) ≡ true → pointer_checked v ≡ Err WrongPointerOemId
+      pointer_maker e t = pointer_rest (pass _ WrongPointerSignature _ (differ_no (number v 0 8) rsd_ptr e) (hit _ WrongPointerOemId _ t))
 
-      pub pointer_sum : number v 0 8 ≡ rsd_ptr → not (text (part v 9 6)) ≡ false → wrong_sum v ≡ true → pointer_refusal v ≡ 5
-      pointer_sum e t s = pointer_rest (pass _ 3 _ (differ_no (number v 0 8) rsd_ptr e) (pass _ 4 _ t (hit _ 5 _ s)))
+      pub pointer_sum : number v 0 8 ≡ rsd_ptr → not (text (part v 9 6)) ≡ false → wrong_sum v ≡ true → pointer_checked v ≡ Err WrongPointerChecksum
+      pointer_sum e t s = pointer_rest (pass _ WrongPointerSignature _ (differ_no (number v 0 8) rsd_ptr e) (pass _ WrongPointerOemId _ t (hit _ WrongPointerChecksum _ s)))
 
-      pub pointer_valid : number v 0 8 ≡ rsd_ptr → not (text (part v 9 6)) ≡ false → wrong_sum v ≡ false → pointer_refusal v ≡ 0
-      pointer_valid e t s = pointer_rest (pass _ 3 _ (differ_no (number v 0 8) rsd_ptr e) (pass _ 4 _ t (pass _ 5 _ s clear)))
+      pub pointer_valid : number v 0 8 ≡ rsd_ptr → not (text (part v 9 6)) ≡ false → wrong_sum v ≡ false → pointer_checked v ≡ Ok tt
+      pointer_valid e t s = pointer_rest (pass _ WrongPointerSignature _ (differ_no (number v 0 8) rsd_ptr e) (pass _ WrongPointerOemId _ t (pass _ WrongPointerChecksum _ s clear)))
 
 -- A valid root pointer is mapped whole.
-pub valid_mapped : (v : List ℕ) → pointer_refusal v ≡ 0 → needed_of v ≤ length v
-unfolding pointer_refusal pointer_reasons
-valid_mapped v e = less_false (length v) (needed_of v) (all_clear _ 1 _ (all_clear _ 1 _ e).others).fails
+pub valid_mapped : (v : List ℕ) → pointer_checked v ≡ Ok tt → needed_of v ≤ length v
+unfolding pointer_checked pointer_reasons
+valid_mapped v e = less_false (length v) (needed_of v) (all_clear _ _ _ (all_clear _ _ _ e).others).fails
 
--- The answer with its value.
-pub answer_valid : (v : List ℕ) → pointer_refusal v ≡ 0 → root_pointer_of v ≡ Valid (pointer_of v)
-unfolding root_pointer_of answered
-answer_valid v e = ap (λ (n : ℕ). answered n (pointer_of v)) e
-
-refused : (n : ℕ) (p : Rsdp) → (n ≡ 0 → ⊥) → answered n p ≡ Refused n
-unfolding answered
-refused zero p h = absurd (h refl)
-refused (suc n) p h = refl
-
-pub answer_refused : (v : List ℕ) → (pointer_refusal v ≡ 0 → ⊥) → root_pointer_of v ≡ Refused (pointer_refusal v)
+-- The answer with its value, or the refusal.
+pub answer_valid : (v : List ℕ) → pointer_checked v ≡ Ok tt → root_pointer_of v ≡ Ok (pointer_of v)
 unfolding root_pointer_of
-answer_refused v h = refused (pointer_refusal v) (pointer_of v) h
+answer_valid v e = then_ok _ e
+
+pub answer_refused : (v : List ℕ) (refusal : Refusal) → pointer_checked v ≡ Err refusal → root_pointer_of v ≡ Err refusal
+unfolding root_pointer_of
+answer_refused v refusal e = then_err _ e
 
 -- The fields of the two structures, as they are read.
 pub pointer_first : (v : List ℕ) (revision rsdt : ℕ) → revision ≡ 0 → revision ≡ revision_of v → rsdt ≡ number v 16 4

@@ -4,18 +4,19 @@ use mathlib.Core.Bool.{false≢true}
 use borrow.Author.Tests.{not-false}
 use Rattle.field.specs.First.{less}
 use Rattle.field.specs.Number.{number}
-use Rattle.field.specs.Sum.{sum}
+use Rattle.std.specs.Prelude.{sum}
+use Rattle.refusal.specs.Number.{number_of}
 use Rattle.field.proofs.FirstLaws.{less_false, differ_false, all_clear, ascends, ascending}
 use Rattle.field.proofs.ChoiceLaws.{chosen_is_nth, nothing_means_few}
-use Rattle.rsdp.specs.Pointer.{rsd_ptr, needed_of, summed_of, wrong_sum, pointer_reasons, pointer_refusal}
-use Rattle.rsdp.specs.Search.{searched, refusal_at, search_of}
+use Rattle.rsdp.specs.Pointer.{rsd_ptr, needed_of, summed_of, wrong_sum, pointer_reasons, pointer_checked}
+use Rattle.rsdp.specs.Search.{searched, checked_at, search_of}
 use Rattle.rsdp.specs.Statements.{PointerReasonsAscend, ValidPointerSums, SearchedIsFirst, NotFoundMeansNone}
 use Rattle.rsdp.proofs.SearchLaws.{found_at, found_none}
 
 -- The list of reasons is known, so its numbers can be compared.
 pub pointer_reasons_ascend : PointerReasonsAscend
 unfolding pointer_reasons ascends
-pointer_reasons_ascend v = ascending 2 (pointer_reasons v) tt
+pointer_reasons_ascend v = ascending number_of 2 (pointer_reasons v) tt
 
 -- Where one of two tests has to hold and none does, each fails.
 or_left : (a b : Bool) → a || b ≡ false → a ≡ false
@@ -26,15 +27,15 @@ or_right : (a b : Bool) → a || b ≡ false → b ≡ false
 or_right true b e = absurd (false≢true (sym e))
 or_right false b e = e
 
--- Where no number applies, no test of the list holds, and none of the three that make the sum wrong.
+-- Where nothing refuses it, no test of the list holds, and none of the three that make the sum wrong.
 pub valid_pointer_sums : ValidPointerSums
-unfolding pointer_refusal pointer_reasons wrong_sum
+unfolding pointer_checked pointer_reasons wrong_sum
 valid_pointer_sums v e =
-    let c₁ = all_clear _ 1 _ e in
-    let c₂ = all_clear _ 1 _ c₁.others in
-    let c₃ = all_clear _ 2 _ c₂.others in
-    let c₄ = all_clear _ 3 _ c₃.others in
-    let c₅ = all_clear _ 4 _ c₄.others in
+    let c₁ = all_clear _ _ _ e in
+    let c₂ = all_clear _ _ _ c₁.others in
+    let c₃ = all_clear _ _ _ c₂.others in
+    let c₄ = all_clear _ _ _ c₃.others in
+    let c₅ = all_clear _ _ _ c₄.others in
     let lengths = or_left (less (summed_of v) 20 || less 36 (summed_of v)) _ c₅.fails in
     record {
       mapped = less_false (length v) (needed_of v) c₂.fails;
@@ -48,9 +49,9 @@ valid_pointer_sums v e =
 -- The search chooses the first valid address of the list, or nothing.
 pub searched_is_first : SearchedIsFirst
 unfolding search_of
-searched_is_first image words p e = chosen_is_nth (refusal_at image words) 0 (searched image words) p (found_at _ p e)
+searched_is_first image words p e = chosen_is_nth _ (checked_at image words) 0 (searched image words) p (found_at _ p e)
 
 pub not_found_means_none : NotFoundMeansNone
 unfolding search_of
-not_found_means_none image words n e =
-    omega (arith, nothing_means_few (refusal_at image words) 0 (searched image words) (found_none _ n e))
+not_found_means_none image words refusal e =
+    omega (arith, nothing_means_few _ (checked_at image words) 0 (searched image words) (found_none _ refusal e))

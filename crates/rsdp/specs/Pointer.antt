@@ -1,14 +1,14 @@
 -- The root pointer: ACPI 6.5, section 5.2.5.3, Table 5.3 "RSDP Structure". v is the view at its address: the bytes from there
 -- to the end of what is mapped.
-use Rattle.std.specs.Prelude.{ℕ, zero, suc, ◌%◌, List, [], ◌∷◌, Bool, not, ◌||◌, length, take}
-use Rattle.field.specs.First.{less, differ, when, Reason, ◌gives◌, first_number}
+use Rattle.std.specs.Prelude.{ℕ, ◌%◌, List, [], ◌∷◌, Bool, not, ◌||◌, length, take, sum, Result, Ok}
+use Rattle.field.specs.First.{less, differ, when, Reason, ◌gives◌, checked}
 use Rattle.field.specs.Number.{number}
 use Rattle.field.specs.Part.{part}
-use Rattle.field.specs.Sum.{sum}
 use Rattle.field.specs.Text.{text}
+use Rattle.field.specs.Then.{and_then}
+use Rattle.refusal.specs.declared.Refusal.{Refusal}
+use Rattle.refusal.specs.declared.Refusal.TheVariants.{PointerNotMapped, WrongPointerSignature, WrongPointerOemId, WrongPointerChecksum}
 use Rattle.rsdp.specs.declared.Rsdp.{Rsdp}
-use Rattle.rsdp.specs.declared.RootPointer.{RootPointer}
-use Rattle.rsdp.specs.declared.RootPointer.TheVariants.{Valid, Refused}
 
 -- "RSD PTR " with its trailing blank, lowest byte first
 abbrev pub rsd_ptr : ℕ
@@ -29,18 +29,18 @@ summed_of v = when (differ (revision_of v) 0) (number v 20 4) 20
 unfoldable pub wrong_sum : List ℕ → Bool
 wrong_sum v = less (summed_of v) 20 || less 36 (summed_of v) || differ (sum (take (summed_of v) v) % 256) 0
 
-unfoldable pub pointer_reasons : List ℕ → List Reason
+unfoldable pub pointer_reasons : List ℕ → List (Reason Refusal)
 pointer_reasons v =
-    (less (length v) 20 gives 2)
-    ∷ (less (length v) (needed_of v) gives 2)
-    ∷ (differ (number v 0 8) rsd_ptr gives 3)
-    ∷ (not (text (part v 9 6)) gives 4)
-    ∷ (wrong_sum v gives 5)
+    (less (length v) 20 gives PointerNotMapped)
+    ∷ (less (length v) (needed_of v) gives PointerNotMapped)
+    ∷ (differ (number v 0 8) rsd_ptr gives WrongPointerSignature)
+    ∷ (not (text (part v 9 6)) gives WrongPointerOemId)
+    ∷ (wrong_sum v gives WrongPointerChecksum)
     ∷ []
 
--- 0 where a valid root pointer stands at the view's start, else the number that refuses it
-unfoldable pub pointer_refusal : List ℕ → ℕ
-pointer_refusal v = first_number (pointer_reasons v)
+-- whether a valid root pointer stands at the view's start, or what refuses it
+unfoldable pub pointer_checked : List ℕ → Result (Unit {0}) Refusal
+pointer_checked v = checked (pointer_reasons v)
 
 -- what a valid root pointer says; ACPI 1.0 knows no XSDT
 unfoldable pub pointer_of : List ℕ → Rsdp
@@ -52,9 +52,5 @@ pointer_of v =
       xsdt_address = when (differ (revision_of v) 0) (number v 24 8) 0;
     }
 
-unfoldable pub answered : ℕ → Rsdp → RootPointer
-answered zero pointer = Valid pointer
-answered (suc n) pointer = Refused (suc n)
-
-unfoldable pub root_pointer_of : List ℕ → RootPointer
-root_pointer_of v = answered (pointer_refusal v) (pointer_of v)
+unfoldable pub root_pointer_of : List ℕ → Result Rsdp Refusal
+root_pointer_of v = and_then (pointer_checked v) (λ _. Ok (pointer_of v))

@@ -1,13 +1,13 @@
 -- The search for the root pointer: ACPI 6.5, section 5.2.5.1 "Finding the RSDP on IA-PC Systems" (docs/TABLES.md, "Root pointer").
-use Rattle.std.specs.Prelude.{ℕ, zero, suc, ◌+◌, ◌-◌, ◌*◌, ◌/◌, List, [], ◌∷◌, ◌++◌, not, ◌&&◌, length, drop}
+use Rattle.std.specs.Prelude.{ℕ, zero, suc, ◌+◌, ◌-◌, ◌*◌, ◌/◌, List, [], ◌∷◌, ◌++◌, not, ◌&&◌, length, drop, Result}
+use Rattle.std.specs.Option.{ok_or}
 use Rattle.field.specs.First.{less, when}
 use Rattle.field.specs.Number.{number}
-use Rattle.field.specs.Choice.{Choice, nth_valid}
-use Rattle.field.specs.Choice.Choice.{nothing, chosen}
+use Rattle.field.specs.Choice.{nth_valid}
 use Rattle.memory.specs.Places.{view_of}
-use Rattle.rsdp.specs.Pointer.{pointer_refusal}
-use Rattle.rsdp.specs.declared.Search.{Search}
-use Rattle.rsdp.specs.declared.Search.TheVariants.{At, Refused}
+use Rattle.refusal.specs.declared.Refusal.{Refusal}
+use Rattle.refusal.specs.declared.Refusal.TheVariants.{PointerNotFound}
+use Rattle.rsdp.specs.Pointer.{pointer_checked}
 
 -- n addresses from p on, every 16 bytes
 unfoldable pub every_sixteen : ℕ → ℕ → List ℕ
@@ -33,18 +33,14 @@ second_area segment =
 unfoldable pub searched : List ℕ → List ℕ → List ℕ
 searched image words = candidates 0xe0000 0x20000 ++ second_area (segment_of (view_of image words 0x40e))
 
--- what refuses the root pointer at an address
-unfoldable pub refusal_at : List ℕ → List ℕ → ℕ → ℕ
-refusal_at image words p = pointer_refusal (view_of image words p)
+-- the check of the root pointer at an address
+unfoldable pub checked_at : List ℕ → List ℕ → ℕ → Result (Unit {0}) Refusal
+checked_at image words p = pointer_checked (view_of image words p)
 
--- what refuses the root pointer at an address of the view v, which begins at start
-unfoldable pub refusal_in : List ℕ → ℕ → ℕ → ℕ
-refusal_in v start p = pointer_refusal (drop (p - start) v)
-
-unfoldable pub found : Choice → Search
-found nothing = Refused 18
-found (chosen p) = At p
+-- the check of the root pointer at an address of the view v, which begins at start
+unfoldable pub checked_in : List ℕ → ℕ → ℕ → Result (Unit {0}) Refusal
+checked_in v start p = pointer_checked (drop (p - start) v)
 
 -- the first address searched at which a valid root pointer stands
-unfoldable pub search_of : List ℕ → List ℕ → Search
-search_of image words = found (nth_valid (refusal_at image words) 0 (searched image words))
+unfoldable pub search_of : List ℕ → List ℕ → Result ℕ Refusal
+search_of image words = ok_or (nth_valid (checked_at image words) 0 (searched image words)) PointerNotFound

@@ -1,21 +1,21 @@
 -- What is shown of the root pointer and of its search beside the contracts.
-use Rattle.std.specs.Prelude.{ℕ, ◌%◌, ◌≤◌, ◌≡◌, List, ◌∷◌, map, true, length, take, set}
+use Rattle.std.specs.Prelude.{ℕ, ◌%◌, ◌≤◌, ◌≡◌, List, ◌∷◌, map, true, length, take, set, sum, Ok, Err}
 use Rattle.field.specs.First.{Ascending}
 use Rattle.field.specs.Number.{number}
 use Rattle.field.specs.Part.{part}
-use Rattle.field.specs.Sum.{sum}
 use Rattle.field.specs.Text.{text}
 use Rattle.field.specs.Choice.{looked_at, count_valid, Nth, All}
 use Rattle.memory.specs.Places.{view_of}
 use Rattle.memory.specs.Pieces.{Piece, AgreeOn, OutsideOf, NotMapped}
-use Rattle.rsdp.specs.Pointer.{rsd_ptr, needed_of, summed_of, pointer_reasons, pointer_refusal, root_pointer_of}
-use Rattle.rsdp.specs.Search.{searched, refusal_at, search_of}
+use Rattle.rsdp.specs.Pointer.{rsd_ptr, needed_of, summed_of, pointer_reasons, pointer_checked, root_pointer_of}
+use Rattle.rsdp.specs.Search.{searched, checked_at, search_of}
 use Rattle.rsdp.specs.Asked.{root_pointer_at, search_asked}
-use Rattle.rsdp.specs.declared.Search.TheVariants.{At, Refused}
+use Rattle.refusal.specs.declared.Refusal.{Refusal}
+use Rattle.refusal.specs.Number.{number_of}
 
 -- The numbers ascend, so that the first that applies is the smallest.
 abbrev pub PointerReasonsAscend : Type 0
-PointerReasonsAscend = (v : List ℕ) → Ascending 2 (pointer_reasons v)
+PointerReasonsAscend = (v : List ℕ) → Ascending number_of 2 (pointer_reasons v)
 
 -- A valid root pointer is mapped whole, has the signature and a maker's id that is text, and sums to 0 over a length that can
 -- be right.
@@ -28,16 +28,16 @@ pub record ValidPointer (v : List ℕ) : Type 0 where
   pub sums : sum (take (summed_of v) v) % 256 ≡ 0
 
 abbrev pub ValidPointerSums : Type 0
-ValidPointerSums = (v : List ℕ) → pointer_refusal v ≡ 0 → ValidPointer v
+ValidPointerSums = (v : List ℕ) → pointer_checked v ≡ Ok tt → ValidPointer v
 
 -- What a search finds is the first valid root pointer of all that are searched, and it finds none only where none is valid.
 abbrev pub SearchedIsFirst : Type 0
 SearchedIsFirst =
-    (image words : List ℕ) (p : ℕ) → search_of image words ≡ At p → Nth (refusal_at image words) 0 (searched image words) p
+    (image words : List ℕ) (p : ℕ) → search_of image words ≡ Ok p → Nth (checked_at image words) 0 (searched image words) p
 
 abbrev pub NotFoundMeansNone : Type 0
 NotFoundMeansNone =
-    (image words : List ℕ) (n : ℕ) → search_of image words ≡ Refused n → count_valid (refusal_at image words) (searched image words) ≡ 0
+    (image words : List ℕ) (refusal : Refusal) → search_of image words ≡ Err refusal → count_valid (checked_at image words) (searched image words) ≡ 0
 
 -- The answer depends on the root pointer's 20 bytes, 36 where its revision is not 0, and on how much is mapped.
 abbrev pub PointerBytes : Type 0
@@ -52,7 +52,7 @@ named_pointer image words p = record { start = p; size = needed_of (view_of imag
 unfoldable pub named_search : List ℕ → List ℕ → List Piece
 named_search image words =
     record { start = 0x40e; size = 2 }
-    ∷ map (named_pointer image words) (looked_at (refusal_at image words) 0 (searched image words))
+    ∷ map (named_pointer image words) (looked_at (checked_at image words) 0 (searched image words))
 
 -- Two images of one length that agree on the named bytes have the same answer.
 abbrev pub PointerAtBytes : Type 0

@@ -6,5 +6,5 @@ use Rattle.rsdp.proofs.needed.Goals as goal
 pub returns-then-u8_at-eq0 : goal.returns-then-u8_at-eq0
 returns-then-u8_at-eq0 c = sym (needed_first c.args.view.now (sym c.u8_at.ensures ∙ c.if-u8_at-eq0.true))
 
-pub returns : goal.returns
-returns c = sym (needed_later c.args.view.now (λ zero. c.if-u8_at-eq0.false (c.u8_at.ensures ∙ zero)))
+pub returns-else-u8_at-eq0 : goal.returns-else-u8_at-eq0
+returns-else-u8_at-eq0 c = sym (needed_later c.args.view.now (λ zero. c.if-u8_at-eq0.false (c.u8_at.ensures ∙ zero)))

@@ -1,42 +1,37 @@
 -- `search_for_on_bios` meets its contract: the first area decides where it has a valid root pointer, else the second.
-use Rattle.std.proofs.Common.{ap, sym, ◌∙◌, arith, ℕ, List, not}
-use Rattle.field.proofs.FirstLaws.{when_hit, when_pass}
+use Rattle.std.proofs.Common.{ap, sym, ◌∙◌, ℕ, List}
+use Rattle.std.specs.Prelude.{Option}
+use Rattle.std.specs.Option.{ok_or}
+use Rattle.std.proofs.lemmas.Result.{err_from_is_err_and}
+use Rattle.refusal.specs.declared.Refusal.TheVariants.{PointerNotFound}
 use Rattle.field.specs.Choice.{nth_valid}
-use Rattle.rsdp.specs.Search.{refusal_at, found, second_area}
+use Rattle.memory.proofs.AskedLaws.{asked_lent, asked_wrong}
+use Rattle.rsdp.specs.Search.{checked_at, second_area, search_of}
 use Rattle.rsdp.specs.Asked.{search_asked}
-use Rattle.rsdp.proofs.SearchLaws.{found_at, found_none, search_first, search_second}
+use Rattle.rsdp.proofs.SearchLaws.{search_first, search_second}
 use Rattle.rsdp.proofs.search_for_on_bios.Goals as goal
 
-pub returns-then-not-is_right : goal.returns-then-not-is_right
+pub returns-in_err-memory : goal.returns-in_err-memory
 unfolding search_asked
-returns-then-not-is_right c = sym (when_hit _ _ _ (ap not (sym c.is_right.ensures ∙ c.if-not-is_right.true)))
+returns-in_err-memory c =
+    let p = err_from_is_err_and c.from_residual.result c.from_residual.ensures.1 in
+    let wrong = c.in_err-memory.ensures.wrong in
+    rw (p.1, p.2, wrong.0) (sym (asked_wrong _ _ _ wrong.1))
 
-pub search_area-requires : goal.search_area-requires
-search_area-requires c = record { right_ranges = sym c.is_right.ensures ∙ c.if-not-is_right.false; below_4_gib = omega arith }
-
-pub segment-requires : goal.segment-requires
-segment-requires c = sym c.is_right.ensures ∙ c.if-not-is_right.false
-
-pub search_area-requires-in-Refused : goal.search_area-requires-in-Refused
-search_area-requires-in-Refused c =
-    record { right_ranges = sym c.is_right.ensures ∙ c.if-not-is_right.false; below_4_gib = c.second_area.ensures.1 }
-
-pub returns-in-At : goal.returns-in-At
+pub returns-in-Some : goal.returns-in-Some
 unfolding search_asked
-returns-in-At c =
-    let a = c.args in
-    sym
-    (when_pass _ _ _ (ap not (sym c.is_right.ensures ∙ c.if-not-is_right.false))
-    ∙ search_first a.image.now a.ranges.now c.in-At.p (found_at _ _ (sym c.search_area.ensures ∙ c.in-At.is)))
+returns-in-Some c =
+    let m = c.in_ok-memory.memory in
+    search_first m.image.now m.ranges.now c.in-Some.p (sym c.search_area.ensures ∙ c.in-Some.is)
+    ∙ asked_lent m c.args.image.now c.args.ranges.now search_of c.in_ok-memory.ensures.lent
 
-pub returns-in-Refused : goal.returns-in-Refused
+pub returns-in-None : goal.returns-in-None
 unfolding search_asked
-returns-in-Refused c =
-    let a = c.args in
-    let image = a.image.now in
-    let words = a.ranges.now in
-    c.search_area-in-Refused.ensures
-    ∙ ap (λ (l : List ℕ). found (nth_valid (refusal_at image words) 0 l)) (c.second_area.ensures.0 ∙ ap second_area c.segment.ensures)
-    ∙ sym
-    (when_pass _ _ _ (ap not (sym c.is_right.ensures ∙ c.if-not-is_right.false))
-    ∙ search_second image words (found_none _ _ (sym c.search_area.ensures ∙ c.in-Refused.is)))
+returns-in-None c =
+    let m = c.in_ok-memory.memory in
+    c.ok_or.ensures.value
+    ∙ ap (λ (o : Option ℕ). ok_or o PointerNotFound)
+    (c.search_area-in-None.ensures
+    ∙ ap (λ (l : List ℕ). nth_valid (checked_at m.image.now m.ranges.now) 0 l) (c.second_area.ensures ∙ ap second_area c.segment.ensures))
+    ∙ search_second m.image.now m.ranges.now (sym c.search_area.ensures ∙ c.in-None.is)
+    ∙ asked_lent m c.args.image.now c.args.ranges.now search_of c.in_ok-memory.ensures.lent

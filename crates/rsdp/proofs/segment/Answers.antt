@@ -8,6 +8,6 @@ pub returns-then-view-lt2 : goal.returns-then-view-lt2
 unfolding segment_of
 returns-then-view-lt2 c = sym (ap segment_of (sym c.view-view.ensures) ∙ when_hit _ _ _ (less_yes _ 2 (omega arith)))
 
-pub returns : goal.returns
+pub returns-else-view-lt2 : goal.returns-else-view-lt2
 unfolding segment_of
-returns c = c.u16_at.ensures ∙ sym (ap segment_of (sym c.view-view.ensures) ∙ when_pass _ _ _ (less_no _ 2 (omega arith)))
+returns-else-view-lt2 c = c.u16_at.ensures ∙ sym (ap segment_of (sym c.view-view.ensures) ∙ when_pass _ _ _ (less_no _ 2 (omega arith)))

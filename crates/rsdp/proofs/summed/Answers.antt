@@ -12,5 +12,5 @@ returns-then-u8_at-eq0 c = sym (summed_first c.args.view.now (sym c.u8_at.ensure
 pub u32_at-requires : goal.u32_at-requires
 u32_at-requires c = omega (arith, needed_later c.args.view.now (λ zero. c.if-u8_at-eq0.false (c.u8_at.ensures ∙ zero)))
 
-pub returns : goal.returns
-returns c = c.u32_at.ensures ∙ sym (summed_later c.args.view.now (λ zero. c.if-u8_at-eq0.false (c.u8_at.ensures ∙ zero)))
+pub returns-else-u8_at-eq0 : goal.returns-else-u8_at-eq0
+returns-else-u8_at-eq0 c = c.u32_at.ensures ∙ sym (summed_later c.args.view.now (λ zero. c.if-u8_at-eq0.false (c.u8_at.ensures ∙ zero)))

@@ -1,8 +1,8 @@
--- `refusal` meets its contract: each finding decides, in the order of the reasons.
+-- `check` meets its contract: each finding decides, in the order of the reasons.
 use Rattle.std.proofs.Common.{ap, sym, ◌∙◌, arith, not}
 use Rattle.field.specs.Part.{part}
 use Rattle.rsdp.proofs.PointerLaws.{pointer_short, pointer_cut, pointer_signature, pointer_maker, pointer_sum, pointer_valid}
-use Rattle.rsdp.proofs.refusal.Goals as goal
+use Rattle.rsdp.proofs.check.Goals as goal
 
 pub returns-then-view-lt20 : goal.returns-then-view-lt20
 returns-then-view-lt20 c = sym (pointer_short c.args.view.now (omega arith))
