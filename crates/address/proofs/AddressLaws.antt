@@ -1,21 +1,11 @@
 -- Laws about generic addresses, their spaces and their access sizes.
 use Rattle.std.proofs.Common.{ℕ, zero, suc, ◌+◌, ◌<◌, ◌≡◌, refl, sym, ◌∙◌, List, [], ◌∷◌, map, Bool, true, false, add-suc, suc-add, zero-add, le_of_suc-le-suc, not-suc-le-zero, arith, length, get_or}
 use Rattle.field.specs.First.{when}
-use Rattle.field.proofs.FirstLaws.{less_true, less_false}
+use Rattle.field.proofs.FirstLaws.{less_true, less_false, err_not_ok}
 use Rattle.address.specs.Space.{spaces, space_number, space_of, SpaceHasItsNumber}
 use Rattle.address.specs.Size.{sizes, size_number, size_of, SizeHasItsNumber}
-use Rattle.address.specs.Generic.{generic_of}
 use Rattle.address.specs.declared.AddressSpace.TheVariants.{SystemMemory}
 use Rattle.address.specs.declared.AccessSize.TheVariants.{Undefined}
-use Rattle.address.specs.declared.Space.{Space}
-use Rattle.address.specs.declared.Space.TheVariants.{UnknownSpace}
-use Rattle.address.specs.declared.Size.{Size}
-use Rattle.address.specs.declared.Generic.TheVariants.{Refused}
-
--- An address in an unknown space is refused, whatever its access size.
-pub unknown_space : (bytes : List ℕ) (at : ℕ) (space : Space) (size : Size) → space ≡ UnknownSpace → generic_of bytes at space size ≡ Refused 14
-unfolding generic_of
-unknown_space bytes at space size e = rw e
 
 -- the numbers from i on, n of them
 abbrev numbers : ℕ → ℕ → List ℕ
@@ -45,23 +35,19 @@ unfolding when
 when_cases true x rest e first others = first refl e
 when_cases false x rest e first others = others refl e
 
--- An unknown name is no known one: what `cc` derives from their being equal proves anything.
-never : {C : Type 0} → ◌≡◌ {A = ℕ} 0 1 → C
-never e = absurd (omega arith)
-
 -- By the rows of the table: the list is in the order of its numbers, 0x7f is the one number from 0x7f on below 0x80, and the
 -- maker's own number is kept.
 pub space_has_its_number : SpaceHasItsNumber
 unfolding space_of
 space_has_its_number n space e =
     when_cases _ _ _ e (λ t h. cc (in_order space_number SystemMemory spaces 0 n refl (less_true _ _ t), zero-add n))
-    (λ _ e₁. when_cases _ _ _ e₁ (λ _ h. never (cc))
+    (λ _ e₁. when_cases _ _ _ e₁ (λ _ h. err_not_ok _ _ h)
     (λ t₁ e₂. when_cases _ _ _ e₂ (λ t₂ h. let n_is : 0x7f ≡ n = omega (arith, less_false _ _ t₁, less_true _ _ t₂) in cc)
-    (λ _ e₃. when_cases _ _ _ e₃ (λ _ h. never (cc)) (λ _ h. cc))))
+    (λ _ e₃. when_cases _ _ _ e₃ (λ _ h. err_not_ok _ _ h) (λ _ h. cc))))
 
 -- The list is in the order of its numbers.
 pub size_has_its_number : SizeHasItsNumber
 unfolding size_of
 size_has_its_number n size e =
     when_cases _ _ _ e (λ t h. cc (in_order size_number Undefined sizes 0 n refl (less_true _ _ t), zero-add n))
-    (λ _ h. never (cc))
+    (λ _ h. err_not_ok _ _ h)

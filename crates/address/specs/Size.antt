@@ -1,10 +1,10 @@
 -- Access sizes (ACPI 6.5, section 5.2.3.2, Table 5.1, field Access Size).
-use Rattle.std.specs.Prelude.{ℕ, ◌≡◌, List, [], ◌∷◌, length, slice_index_or}
+use Rattle.std.specs.Prelude.{ℕ, ◌≡◌, List, [], ◌∷◌, length, slice_index_or, Result, Ok, Err}
+use Rattle.refusal.specs.declared.Refusal.{Refusal}
+use Rattle.refusal.specs.declared.Refusal.TheVariants.{UnknownSpaceOrSize}
 use Rattle.field.specs.First.{less, when}
 use Rattle.address.specs.declared.AccessSize.{AccessSize}
 use Rattle.address.specs.declared.AccessSize.TheVariants.{Undefined, ByteAccess, WordAccess, DWordAccess, QWordAccess}
-use Rattle.address.specs.declared.Size.{Size}
-use Rattle.address.specs.declared.Size.TheVariants.{Sized, UnknownSize}
 
 -- the number of each access size
 abbrev pub size_number : AccessSize → ℕ
@@ -19,9 +19,9 @@ abbrev pub sizes : List AccessSize
 sizes = Undefined ∷ ByteAccess ∷ WordAccess ∷ DWordAccess ∷ QWordAccess ∷ []
 
 -- The access size that the number n names.
-unfoldable pub size_of : ℕ → Size
-size_of n = when (less n (length sizes)) (Sized (slice_index_or sizes n Undefined)) UnknownSize
+unfoldable pub size_of : ℕ → Result AccessSize Refusal
+size_of n = when (less n (length sizes)) (Ok (slice_index_or sizes n Undefined)) (Err UnknownSpaceOrSize)
 
 -- An access size that a number names has that number.
 abbrev pub SizeHasItsNumber : Type 0
-SizeHasItsNumber = (n : ℕ) (size : AccessSize) → size_of n ≡ Sized size → size_number size ≡ n
+SizeHasItsNumber = (n : ℕ) (size : AccessSize) → size_of n ≡ Ok size → size_number size ≡ n

@@ -1,10 +1,10 @@
 -- Address spaces (ACPI 6.5, section 5.2.3.2, Table 5.1, field Address Space ID).
-use Rattle.std.specs.Prelude.{ℕ, ◌≡◌, List, [], ◌∷◌, length, slice_index_or}
+use Rattle.std.specs.Prelude.{ℕ, ◌≡◌, List, [], ◌∷◌, length, slice_index_or, Result, Ok, Err}
+use Rattle.refusal.specs.declared.Refusal.{Refusal}
+use Rattle.refusal.specs.declared.Refusal.TheVariants.{UnknownSpaceOrSize}
 use Rattle.field.specs.First.{less, when}
 use Rattle.address.specs.declared.AddressSpace.{AddressSpace}
 use Rattle.address.specs.declared.AddressSpace.TheVariants.{SystemMemory, SystemIo, PciConfigSpace, EmbeddedController, SMBus, SystemCmos, PciBarTarget, Ipmi, GeneralIo, GenericSerialBus, PlatformCommunicationsChannel, FunctionalFixedHardware, OemDefined}
-use Rattle.address.specs.declared.Space.{Space}
-use Rattle.address.specs.declared.Space.TheVariants.{Known, UnknownSpace}
 
 -- the number of each space
 abbrev pub space_number : AddressSpace → ℕ
@@ -39,14 +39,14 @@ spaces =
     ∷ []
 
 -- The space that the number n names. What lies between the named ones is reserved, and from 0xc0 on a number is the maker's own.
-unfoldable pub space_of : ℕ → Space
+unfoldable pub space_of : ℕ → Result AddressSpace Refusal
 space_of n =
-    when (less n (length spaces)) (Known (slice_index_or spaces n SystemMemory))
-    (when (less n 0x7f) UnknownSpace
-    (when (less n 0x80) (Known FunctionalFixedHardware)
-    (when (less n 0xc0) UnknownSpace
-    (Known (OemDefined n)))))
+    when (less n (length spaces)) (Ok (slice_index_or spaces n SystemMemory))
+    (when (less n 0x7f) (Err UnknownSpaceOrSize)
+    (when (less n 0x80) (Ok FunctionalFixedHardware)
+    (when (less n 0xc0) (Err UnknownSpaceOrSize)
+    (Ok (OemDefined n)))))
 
 -- A space that a number names has that number.
 abbrev pub SpaceHasItsNumber : Type 0
-SpaceHasItsNumber = (n : ℕ) (space : AddressSpace) → space_of n ≡ Known space → space_number space ≡ n
+SpaceHasItsNumber = (n : ℕ) (space : AddressSpace) → space_of n ≡ Ok space → space_number space ≡ n

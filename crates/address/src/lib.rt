@@ -2,10 +2,11 @@
 #![tactic(auto)]
 
 ghost use Rattle.std.specs.Prelude.{◌≡◌, ◌+◌, ◌≤◌, length};
-ghost use Rattle.field.specs.Number.{number};
 ghost use Rattle.address.specs.Space.{space_of, space_number};
 ghost use Rattle.address.specs.Size.{size_of, size_number};
-ghost use Rattle.address.specs.Generic.{generic_address_at, generic_of};
+ghost use Rattle.address.specs.Generic.{generic_address_at};
+
+use refusal::Refusal;
 
 // The address spaces, under the names of the Rust crate.
 #[derive(Clone, Copy)]
@@ -25,13 +26,14 @@ pub enum AddressSpace {
     OemDefined(u8),
 }
 
+// The access sizes, each with its number.
 #[derive(Clone, Copy)]
 pub enum AccessSize {
-    Undefined,
-    ByteAccess,
-    WordAccess,
-    DWordAccess,
-    QWordAccess,
+    Undefined = 0,
+    ByteAccess = 1,
+    WordAccess = 2,
+    DWordAccess = 3,
+    QWordAccess = 4,
 }
 
 // The width has 32 bits, since that of a register block is eight times a length byte.
@@ -44,134 +46,95 @@ pub struct GenericAddress {
     pub address: u64,
 }
 
-#[derive(Clone, Copy)]
-pub enum Generic {
-    Address(GenericAddress),
-    Refused(u32),
-}
-
-// What a number in a table names, where it names anything.
-#[derive(Clone, Copy)]
-pub enum Space {
-    Known(AddressSpace),
-    UnknownSpace,
-}
-
-#[derive(Clone, Copy)]
-pub enum Size {
-    Sized(AccessSize),
-    UnknownSize,
-}
-
 // The number of an address space, as a table has it.
-pub fn space_number(space: AddressSpace) -> u8
-    ensures { result ≡ space_number space }
-{
-    match space {
-        AddressSpace::SystemMemory => 0,
-        AddressSpace::SystemIo => 1,
-        AddressSpace::PciConfigSpace => 2,
-        AddressSpace::EmbeddedController => 3,
-        AddressSpace::SMBus => 4,
-        AddressSpace::SystemCmos => 5,
-        AddressSpace::PciBarTarget => 6,
-        AddressSpace::Ipmi => 7,
-        AddressSpace::GeneralIo => 8,
-        AddressSpace::GenericSerialBus => 9,
-        AddressSpace::PlatformCommunicationsChannel => 0x0a,
-        AddressSpace::FunctionalFixedHardware => 0x7f,
-        AddressSpace::OemDefined(n) => n,
+impl From<AddressSpace> for u8 {
+    ghost from_gives = { λ space n. n ≡ space_number space };
+
+    fn from(space: AddressSpace) -> u8 {
+        match space {
+            AddressSpace::SystemMemory => 0x00,
+            AddressSpace::SystemIo => 0x01,
+            AddressSpace::PciConfigSpace => 0x02,
+            AddressSpace::EmbeddedController => 0x03,
+            AddressSpace::SMBus => 0x04,
+            AddressSpace::SystemCmos => 0x05,
+            AddressSpace::PciBarTarget => 0x06,
+            AddressSpace::Ipmi => 0x07,
+            AddressSpace::GeneralIo => 0x08,
+            AddressSpace::GenericSerialBus => 0x09,
+            AddressSpace::PlatformCommunicationsChannel => 0x0a,
+            AddressSpace::FunctionalFixedHardware => 0x7f,
+            AddressSpace::OemDefined(n) => n,
+        }
     }
 }
 
-// The address space that a number names.
-pub fn address_space(n: u8) -> Space
-    ensures { result ≡ space_of n }
-{
-    let spaces = [
-        AddressSpace::SystemMemory,
-        AddressSpace::SystemIo,
-        AddressSpace::PciConfigSpace,
-        AddressSpace::EmbeddedController,
-        AddressSpace::SMBus,
-        AddressSpace::SystemCmos,
-        AddressSpace::PciBarTarget,
-        AddressSpace::Ipmi,
-        AddressSpace::GeneralIo,
-        AddressSpace::GenericSerialBus,
-        AddressSpace::PlatformCommunicationsChannel,
-    ];
-    if n < 0x0b {
-        let i = n as usize;
-        return Space::Known(spaces[i]);
+// The address space that a number names. Those from 0xc0 on are the maker's own, and the others are reserved.
+impl TryFrom<u8> for AddressSpace {
+    type Error = Refusal;
+
+    ghost try_from_gives = { λ n space. space ≡ space_of n };
+
+    #[tactic(auto, unfolding(crate::specs::Space::space_of, field::specs::First::less, field::specs::First::when))]
+    fn try_from(n: u8) -> Result<AddressSpace, Refusal> {
+        match n {
+            0x00 => Ok(AddressSpace::SystemMemory),
+            0x01 => Ok(AddressSpace::SystemIo),
+            0x02 => Ok(AddressSpace::PciConfigSpace),
+            0x03 => Ok(AddressSpace::EmbeddedController),
+            0x04 => Ok(AddressSpace::SMBus),
+            0x05 => Ok(AddressSpace::SystemCmos),
+            0x06 => Ok(AddressSpace::PciBarTarget),
+            0x07 => Ok(AddressSpace::Ipmi),
+            0x08 => Ok(AddressSpace::GeneralIo),
+            0x09 => Ok(AddressSpace::GenericSerialBus),
+            0x0a => Ok(AddressSpace::PlatformCommunicationsChannel),
+            0x7f => Ok(AddressSpace::FunctionalFixedHardware),
+            0xc0.. => Ok(AddressSpace::OemDefined(n)),
+            _ => Err(Refusal::UnknownSpaceOrSize),
+        }
     }
-    if n < 0x7f {
-        return Space::UnknownSpace;
-    }
-    if n < 0x80 {
-        return Space::Known(AddressSpace::FunctionalFixedHardware);
-    }
-    if n < 0xc0 {
-        return Space::UnknownSpace;
-    }
-    Space::Known(AddressSpace::OemDefined(n))
 }
 
 // The number of an access size, as a table has it.
-pub fn size_number(size: AccessSize) -> u8
-    ensures { result ≡ size_number size }
-{
-    match size {
-        AccessSize::Undefined => 0,
-        AccessSize::ByteAccess => 1,
-        AccessSize::WordAccess => 2,
-        AccessSize::DWordAccess => 3,
-        AccessSize::QWordAccess => 4,
+impl From<AccessSize> for u8 {
+    ghost from_gives = { λ size n. n ≡ size_number size };
+
+    fn from(size: AccessSize) -> u8 {
+        size as u8
     }
 }
 
 // The access size that a number names.
-pub fn access_size(n: u8) -> Size
-    ensures { result ≡ size_of n }
-{
-    let sizes = [
-        AccessSize::Undefined,
-        AccessSize::ByteAccess,
-        AccessSize::WordAccess,
-        AccessSize::DWordAccess,
-        AccessSize::QWordAccess,
-    ];
-    if n < 5 {
-        let i = n as usize;
-        return Size::Sized(sizes[i]);
-    }
-    Size::UnknownSize
-}
+impl TryFrom<u8> for AccessSize {
+    type Error = Refusal;
 
-// The generic address at an offset, whose space is known.
-fn address_in(bytes: &[u8], at: usize, space: AddressSpace) -> Generic
-    requires { at + 12 ≤ length bytes.now }
-    ensures { result ≡ generic_of bytes.now at (Space.Known space) (size_of (number bytes.now (at + 3) 1)) }
-{
-    match access_size(field::u8_at(bytes, at + 3)) {
-        Size::Sized(size) => Generic::Address(GenericAddress {
-            address_space: space,
-            bit_width: field::u8_at(bytes, at + 1) as u32,
-            bit_offset: field::u8_at(bytes, at + 2),
-            access_size: size,
-            address: field::u64_at(bytes, at + 4),
-        }),
-        Size::UnknownSize => Generic::Refused(14),
+    ghost try_from_gives = { λ n size. size ≡ size_of n };
+
+    #[tactic(auto, unfolding(crate::specs::Size::size_of, field::specs::First::less, field::specs::First::when))]
+    fn try_from(n: u8) -> Result<AccessSize, Refusal> {
+        match n {
+            0 => Ok(AccessSize::Undefined),
+            1 => Ok(AccessSize::ByteAccess),
+            2 => Ok(AccessSize::WordAccess),
+            3 => Ok(AccessSize::DWordAccess),
+            4 => Ok(AccessSize::QWordAccess),
+            _ => Err(Refusal::UnknownSpaceOrSize),
+        }
     }
 }
 
-// The generic address at an offset, or 14 where its space or access size is unknown.
-pub fn generic_address(bytes: &[u8], at: usize) -> Generic
+// The generic address at an offset. It is refused where its space or its access size is unknown.
+#[tactic(auto, unfolding(crate::specs::Generic::generic_address_at))]
+pub fn generic_address(bytes: &[u8], at: usize) -> Result<GenericAddress, Refusal>
     requires { at + 12 ≤ length bytes.now }
     ensures { result ≡ generic_address_at bytes.now at }
 {
-    match address_space(field::u8_at(bytes, at)) {
-        Space::Known(space) => address_in(bytes, at, space),
-        Space::UnknownSpace => Generic::Refused(14),
-    }
+    Ok(GenericAddress {
+        address_space: AddressSpace::try_from(field::u8_at(bytes, at))?,
+        bit_width: field::u8_at(bytes, at + 1) as u32,
+        bit_offset: field::u8_at(bytes, at + 2),
+        access_size: AccessSize::try_from(field::u8_at(bytes, at + 3))?,
+        address: field::u64_at(bytes, at + 4),
+    })
 }
