@@ -1,17 +1,18 @@
 -- The entries of an MCFG table (PCI Firmware Specification 3.x, section 4.1.2, Table 4-2): the header and 8 reserved bytes, then
 -- the configuration space base address allocation structures (Table 4-3), 16 bytes each.
-use Rattle.std.specs.Prelude.{ℕ, zero, suc, ◌+◌, ◌-◌, ◌/◌, List, [], ◌∷◌, Bool, ◌||◌, length}
+use Rattle.std.specs.Prelude.{ℕ, zero, suc, ◌+◌, ◌-◌, ◌/◌, List, [], ◌∷◌, length, slice_get, Result, Ok}
+use Rattle.std.specs.Option.{ok_or}
 use Rattle.field.specs.Number.{number}
-use Rattle.field.specs.First.{less, differ, when}
+use Rattle.field.specs.First.{less, differ, ◌gives◌, checked}
+use Rattle.field.specs.Then.{and_then}
+use Rattle.refusal.specs.declared.Refusal.{Refusal}
+use Rattle.refusal.specs.declared.Refusal.TheVariants.{TooShort, NotThere}
 use Rattle.mcfg.specs.declared.McfgEntry.{McfgEntry}
-use Rattle.mcfg.specs.declared.EntryCount.{EntryCount}
-use Rattle.mcfg.specs.declared.EntryCount.TheVariants as count
-use Rattle.mcfg.specs.declared.KthEntry.{KthEntry}
-use Rattle.mcfg.specs.declared.KthEntry.TheVariants as kth
 
 -- the table is shorter than its fixed part, or not as long as it states
-unfoldable pub wrong_length : List ℕ → Bool
-wrong_length table = less (length table) 44 || differ (number table 4 4) (length table)
+unfoldable pub length_checked : List ℕ → Result (Unit {0}) Refusal
+length_checked table =
+    checked ((less (length table) 44 gives TooShort) ∷ (differ (number table 4 4) (length table) gives TooShort) ∷ [])
 
 -- the allocation structure at an offset: Base Address, PCI Segment Group Number, Start Bus Number, End Bus Number, 4 reserved bytes
 unfoldable pub entry_at : List ℕ → ℕ → McfgEntry
@@ -37,15 +38,9 @@ unfoldable pub entries : List ℕ → List McfgEntry
 entries table = entries_from table 44
 
 -- How many entries there are.
-unfoldable pub entry_count_of : List ℕ → EntryCount
-entry_count_of table = when (wrong_length table) (count.Refused 11) (count.Count (length (entries table)))
-
--- the k-th of a list, 13 where it has fewer
-unfoldable pub kth_of : List McfgEntry → ℕ → KthEntry
-kth_of [] k = kth.Refused 13
-kth_of (e ∷ es) zero = kth.Entry e
-kth_of (e ∷ es) (suc k) = kth_of es k
+unfoldable pub entry_count_of : List ℕ → Result ℕ Refusal
+entry_count_of table = and_then (length_checked table) (λ _. Ok (length (entries table)))
 
 -- The k-th entry, counted from 0.
-unfoldable pub entry_of : List ℕ → ℕ → KthEntry
-entry_of table k = when (wrong_length table) (kth.Refused 11) (kth_of (entries table) k)
+unfoldable pub entry_of : List ℕ → ℕ → Result McfgEntry Refusal
+entry_of table k = and_then (length_checked table) (λ _. ok_or (slice_get (entries table) k) NotThere)

@@ -1,9 +1,12 @@
 // The MCFG table: where the configuration space of PCI functions lies in memory (PCI Firmware Specification 3.x, section 4.1.2).
 #![tactic(auto)]
 
-ghost use Rattle.std.specs.Prelude.{◌≡◌, true, ◌+◌, ◌≤◌, length};
-ghost use Rattle.mcfg.specs.Entries.{wrong_length, entry_at, entries, entry_count_of, entry_of};
+ghost use Rattle.std.specs.Prelude.{◌≡◌, ◌+◌, ◌*◌, ◌≤◌, length, OnOk, IfOk, IfSome};
+ghost use Rattle.std.specs.Iterator.{YieldsFirst, item_count};
+ghost use Rattle.mcfg.specs.Entries.{length_checked, entry_at, entries_from, entries, entry_count_of, entry_of};
 ghost use Rattle.mcfg.specs.Physical.{includes, window_of, address_in, physical_address_of};
+
+use refusal::Refusal;
 
 // An entry, under the names of the Rust crate: a window for the buses from the first to the last of a segment group.
 #[derive(Clone, Copy)]
@@ -14,42 +17,71 @@ pub struct McfgEntry {
     pub bus_number_end: u8,
 }
 
-#[derive(Clone, Copy)]
-pub enum EntryCount {
-    Count(usize),
-    Refused(u32),
-}
-
-#[derive(Clone, Copy)]
-pub enum KthEntry {
-    Entry(McfgEntry),
-    Refused(u32),
-}
-
-#[derive(Clone, Copy)]
-pub enum PhysicalAddress {
-    Address(u64),
-    Refused(u32),
-}
-
-// The window that holds a bus, where there is one.
-#[derive(Clone, Copy)]
-pub enum Window {
-    Through(McfgEntry),
-    Nowhere,
-}
-
-// Whether the slice is too short for an MCFG or not as long as the table states.
-fn wrong_length(table: &[u8]) -> bool
-    ensures { result ≡ wrong_length table.now }
-{
-    if table.len() < 44 {
-        return true;
+impl McfgEntry {
+    // Whether the entry has the segment group, and the bus among its buses. Windows most often differ in the first.
+    fn includes(self, segment: u16, bus: u8) -> bool
+        ensures { result ≡ includes segment bus self }
+    {
+        self.pci_segment_group == segment
+            && self.bus_number_start <= bus
+            && bus <= self.bus_number_end
     }
-    field::u32_at(table, 4) as usize != table.len()
+
+    // The address of a function in the window, whose entry includes the bus.
+    #[tactic(auto, unfolding(crate::specs::Physical::address_in, field::specs::First::less, field::specs::First::when))]
+    fn address_in(self, bus: u8, device: u8, function: u8) -> Result<u64, Refusal>
+        requires { (self.bus_number_start ≤ bus) × (device ≤ 31) × (function ≤ 7) }
+        ensures { result ≡ address_in self bus device function }
+    {
+        let before = u64::from(bus - self.bus_number_start) * 0x10_0000
+            + u64::from(device) * 0x8000
+            + u64::from(function) * 0x1000;
+        self.base_address
+            .checked_add(before)
+            .ok_or(Refusal::NotThere)
+    }
+}
+
+// The entries from an offset to the table's end.
+#[derive(Clone, Copy)]
+struct Entries<'a> {
+    table: &'a [u8],
+    at: usize,
+    ghost inside: { at ≤ length table.now },
+}
+
+impl Iterator for Entries<'_> {
+    type Item = McfgEntry;
+
+    ghost next_gives = { YieldsFirst (λ s. entries_from s.table.now s.at) };
+
+    ghost remaining = { item_count (λ s. entries_from s.table.now s.at) };
+
+    #[tactic(auto, using(crate::proofs::EntryLaws::from_step, crate::proofs::EntryLaws::from_end))]
+    fn next(&mut self) -> Option<McfgEntry> {
+        if self.table.len() - self.at < 16 {
+            return None;
+        }
+        let entry = entry_at(self.table, self.at);
+        self.at += 16;
+        Some(entry)
+    }
+}
+
+// Refuses a slice that is too short for an MCFG or not as long as the table states.
+#[tactic(auto, unfolding(crate::specs::Entries::length_checked, field::specs::First::checked, field::specs::First::less, field::specs::First::differ, field::specs::First::when))]
+fn check_length(table: &[u8]) -> Result<(), Refusal>
+    ensures value { result ≡ length_checked table.now }
+    ensures long { OnOk result (44 ≤ length table.now) }
+{
+    if table.len() < 44 || field::u32_at(table, 4) as usize != table.len() {
+        return Err(Refusal::TooShort);
+    }
+    Ok(())
 }
 
 // The entry at an offset.
+#[tactic(auto, unfolding(crate::specs::Entries::entry_at))]
 fn entry_at(table: &[u8], at: usize) -> McfgEntry
     requires { at + 16 ≤ length table.now }
     ensures { result ≡ entry_at table.now at }
@@ -63,93 +95,51 @@ fn entry_at(table: &[u8], at: usize) -> McfgEntry
 }
 
 // How many entries there are.
-pub fn entry_count(table: &[u8]) -> EntryCount
-    ensures { result ≡ entry_count_of table.now }
+#[tactic(auto, using(crate::proofs::EntryLaws::entries_length), unfolding(crate::specs::Entries::entry_count_of, crate::specs::Entries::entries, crate::specs::Entries::entries_from))]
+pub fn entry_count(table: &[u8]) -> Result<usize, Refusal>
+    ensures value { result ≡ entry_count_of table.now }
+    ensures inside { IfOk result (λ n. 44 + 16 * n ≤ length table.now) }
 {
-    if wrong_length(table) {
-        return EntryCount::Refused(11);
-    }
-    EntryCount::Count((table.len() - 44) / 16)
+    check_length(table)?;
+    Ok((table.len() - 44) / 16)
 }
 
 // The k-th entry, counted from 0.
-pub fn entry(table: &[u8], k: usize) -> KthEntry
+#[tactic(auto, using(crate::proofs::EntryLaws::entries_length, crate::proofs::EntryLaws::kth_inside), unfolding(crate::specs::Entries::entry_of, crate::specs::Entries::entry_count_of, crate::specs::Entries::entries, crate::specs::Entries::entries_from))]
+pub fn entry(table: &[u8], k: usize) -> Result<McfgEntry, Refusal>
     ensures { result ≡ entry_of table.now k }
 {
-    if wrong_length(table) {
-        return KthEntry::Refused(11);
+    if entry_count(table)? <= k {
+        return Err(Refusal::NotThere);
     }
-    if (table.len() - 44) / 16 <= k {
-        return KthEntry::Refused(13);
-    }
-    KthEntry::Entry(entry_at(table, 44 + 16 * k))
-}
-
-// Whether an entry has the segment group, and the bus among its buses. Windows most often differ in the first.
-fn includes(e: McfgEntry, segment: u16, bus: u8) -> bool
-    ensures { result ≡ includes segment bus e }
-{
-    if e.pci_segment_group != segment {
-        return false;
-    }
-    if bus < e.bus_number_start {
-        return false;
-    }
-    bus <= e.bus_number_end
+    Ok(entry_at(table, 44 + 16 * k))
 }
 
 // The first entry that includes the bus.
-fn first_window(table: &[u8], segment: u16, bus: u8) -> Window
+#[tactic(auto, unfolding(crate::specs::Entries::entries))]
+fn first_window(table: &[u8], segment: u16, bus: u8) -> Option<McfgEntry>
     requires { 44 ≤ length table.now }
-    ensures { result ≡ window_of segment bus (entries table.now) }
+    ensures first { result ≡ window_of segment bus (entries table.now) }
+    ensures from { IfSome result (λ e. e.bus_number_start ≤ bus) }
 {
-    let mut at = 44;
-    while 16 <= table.len() - at {
-        let e = entry_at(table, at);
-        if includes(e, segment, bus) {
-            return Window::Through(e);
-        }
-        at += 16;
-    }
-    Window::Nowhere
-}
-
-// The address of a function in the window of an entry that includes its bus.
-fn address_in(e: McfgEntry, bus: u8, device: u8, function: u8) -> PhysicalAddress
-    requires { (e.bus_number_start ≤ bus) × (device ≤ 31) × (function ≤ 7) }
-    ensures { result ≡ address_in e bus device function }
-{
-    let base = e.base_address;
-    let before = (bus - e.bus_number_start) as u64 * 0x10_0000
-        + device as u64 * 0x8000
-        + function as u64 * 0x1000;
-    if 0xffff_ffff_ffff_ffff - before < base {
-        return PhysicalAddress::Refused(13);
-    }
-    PhysicalAddress::Address(base + before)
+    Entries { table, at: 44 }.find(|e| e.includes(segment, bus))
 }
 
 // The physical address of the configuration space of a function.
+#[tactic(auto, unfolding(crate::specs::Physical::physical_address_of, field::specs::First::less, field::specs::First::when))]
 pub fn physical_address(
     table: &[u8],
     segment: u16,
     bus: u8,
     device: u8,
     function: u8,
-) -> PhysicalAddress
+) -> Result<u64, Refusal>
     ensures { result ≡ physical_address_of table.now segment bus device function }
 {
-    if wrong_length(table) {
-        return PhysicalAddress::Refused(11);
+    check_length(table)?;
+    if 31 < device || 7 < function {
+        return Err(Refusal::NotThere);
     }
-    if 31 < device {
-        return PhysicalAddress::Refused(13);
-    }
-    if 7 < function {
-        return PhysicalAddress::Refused(13);
-    }
-    match first_window(table, segment, bus) {
-        Window::Through(e) => address_in(e, bus, device, function),
-        Window::Nowhere => PhysicalAddress::Refused(13),
-    }
+    let window = first_window(table, segment, bus).ok_or(Refusal::NotThere)?;
+    window.address_in(bus, device, function)
 }

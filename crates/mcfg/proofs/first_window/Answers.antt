@@ -1,23 +1,14 @@
-use Rattle.std.proofs.Common.{refl, arith}
-use Rattle.mcfg.specs.Entries.{entries}
-use Rattle.mcfg.proofs.WindowLaws.{window_here, window_next, window_end}
+use Rattle.std.proofs.Common.{rules, tests, sym, ◌∙◌}
+use Rattle.std.proofs.lemmas.Iterator.Consumers.{YieldsList-from_first}
+use Rattle.std.proofs.lemmas.Iterator.Search.{find_from_yields_List}
+use Rattle.std.proofs.lemmas.Iterator.Adapters.{option_map_id}
+use Rattle.mcfg.specs.Entries.{entries_from, entries}
+use Rattle.mcfg.specs.Physical.{includes}
 use Rattle.mcfg.proofs.first_window.Goals as goal
 
-pub loop-at-init : goal.loop-at-init
+pub returns-clause-first : goal.returns-clause-first
 unfolding entries
-loop-at-init c = (omega arith, refl)
-
-pub returns-then-includes : goal.returns-then-includes
-returns-then-includes c =
+returns-clause-first c =
     let args = c.args in
-    cc (window_here args.table.now args.segment args.bus c.loop-at.at (omega arith) (cc))
-
-pub loop-at-preserved : goal.loop-at-preserved
-loop-at-preserved c =
-    let args = c.args in
-    (omega arith, cc (window_next args.table.now args.segment args.bus c.loop-at.at (omega arith) (cc)))
-
-pub returns : goal.returns
-returns c =
-    let args = c.args in
-    cc (window_end args.table.now args.segment args.bus c.loop-at.at (omega arith))
+    let found = find_from_yields_List (includes args.segment args.bus) c.find.new.self _ c.find.result c.find.ensures.ran (YieldsList-from_first (λ e. e) (λ s. entries_from s.table.now s.at) (entries_from args.table.now 44) cc) (λ x b q k. search (rules, tests)) in
+    sym (option_map_id c.find.result) ∙ found
