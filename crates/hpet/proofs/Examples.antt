@@ -1,10 +1,11 @@
 -- The definitions on a table of 56 bytes: timers of Intel's at 0xfed00000, three comparators, and on the same in I/O space.
 use Rattle.std.proofs.Common.{ℕ, ◌≡◌, refl, List, [], ◌∷◌, ◌++◌, true, replicate}
+use Rattle.std.specs.Prelude.{Ok, Err}
 use Rattle.field.specs.Number.{number}
-use Rattle.field.specs.First.{less, differ, when}
+use Rattle.field.specs.First.{less, differ, when, checked}
+use Rattle.refusal.specs.declared.Refusal.TheVariants.{UnknownSpaceOrSize}
 use Rattle.hpet.specs.Hpet.{protection_of, info_of, hpet_of}
 use Rattle.hpet.specs.declared.PageProtection.TheVariants.{Protected4K}
-use Rattle.hpet.specs.declared.Hpet.TheVariants.{Info, Refused}
 
 abbrev table : ℕ → List ℕ
 table space =
@@ -14,7 +15,7 @@ table space =
 
 in_memory :
     hpet_of (table 0)
-    ≡ Info
+    ≡ Ok
     (record {
       event_timer_block_id = 0x8086_a201;
       hardware_rev = 1;
@@ -27,9 +28,9 @@ in_memory :
       clock_tick_unit = 0x0180;
       page_protection = Protected4K;
     })
-unfolding hpet_of info_of protection_of number less differ when
+unfolding hpet_of info_of protection_of number checked less differ when
 in_memory = refl
 
-in_ports : hpet_of (table 1) ≡ Refused 14
-unfolding hpet_of info_of protection_of number less differ when
+in_ports : hpet_of (table 1) ≡ Err UnknownSpaceOrSize
+unfolding hpet_of info_of protection_of number checked less differ when
 in_ports = refl

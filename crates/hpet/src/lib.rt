@@ -2,16 +2,43 @@
 #![tactic(auto)]
 
 ghost use Rattle.std.specs.Prelude.{◌≡◌, ◌≤◌, length};
-ghost use Rattle.hpet.specs.Hpet.{hpet_of, info_of, protection_of};
+ghost use Rattle.hpet.specs.Hpet.{hpet_of, info_of, protection_of, protection_number};
 
 use address::AddressSpace;
+use refusal::Refusal;
 
+// Which memory behind the timers' registers may be accessed: nothing is promised, the rest of 4 KB, the rest of 64 KB, or what a
+// reserved number says.
 #[derive(Clone, Copy)]
 pub enum PageProtection {
-    None,
-    Protected4K,
-    Protected64K,
-    Other,
+    None = 0,
+    Protected4K = 1,
+    Protected64K = 2,
+    Other = 3,
+}
+
+// What a number in the field of page protection means.
+impl From<u8> for PageProtection {
+    ghost from_gives = { λ n protection. protection ≡ protection_of n };
+
+    #[tactic(auto, unfolding(crate::specs::Hpet::protection_of))]
+    fn from(n: u8) -> PageProtection {
+        match n {
+            0 => PageProtection::None,
+            1 => PageProtection::Protected4K,
+            2 => PageProtection::Protected64K,
+            _ => PageProtection::Other,
+        }
+    }
+}
+
+// The number that callers are handed, which is the field's for the three that it names.
+impl From<PageProtection> for u8 {
+    ghost from_gives = { λ protection n. n ≡ protection_number protection };
+
+    fn from(protection: PageProtection) -> u8 {
+        protection as u8
+    }
 }
 
 // The names are those of the Rust crate, where some of these are methods that take the block id apart.
@@ -29,29 +56,8 @@ pub struct HpetInfo {
     pub page_protection: PageProtection,
 }
 
-#[derive(Clone, Copy)]
-pub enum Hpet {
-    Info(HpetInfo),
-    Refused(u32),
-}
-
-// What a number in the field of page protection means.
-fn protection(n: u8) -> PageProtection
-    ensures { result ≡ protection_of n }
-{
-    let protections = [
-        PageProtection::None,
-        PageProtection::Protected4K,
-        PageProtection::Protected64K,
-    ];
-    if n < 3 {
-        let i = n as usize;
-        return protections[i];
-    }
-    PageProtection::Other
-}
-
 // The fields of a table that is long enough.
+#[tactic(auto, unfolding(crate::specs::Hpet::info_of))]
 fn info(table: &[u8]) -> HpetInfo
     requires { 56 ≤ length table.now }
     ensures { result ≡ info_of table.now }
@@ -67,22 +73,20 @@ fn info(table: &[u8]) -> HpetInfo
         base_address: field::u64_at(table, 44),
         hpet_number: field::u8_at(table, 52),
         clock_tick_unit: field::u16_at(table, 53),
-        page_protection: protection(field::u8_at(table, 55) % 16),
+        page_protection: PageProtection::from(field::u8_at(table, 55) % 16),
     }
 }
 
-// What an HPET table says, or the number for which it is refused.
-pub fn hpet_info(table: &[u8]) -> Hpet
+// What an HPET table says, or why it is refused.
+#[tactic(auto, unfolding(crate::specs::Hpet::hpet_of, field::specs::First::checked, field::specs::First::less, field::specs::First::differ, field::specs::First::when))]
+pub fn hpet_info(table: &[u8]) -> Result<HpetInfo, Refusal>
     ensures { result ≡ hpet_of table.now }
 {
-    if table.len() < 56 {
-        return Hpet::Refused(11);
+    if table.len() < 56 || field::u32_at(table, 4) as usize != table.len() {
+        return Err(Refusal::TooShort);
     }
-    if field::u32_at(table, 4) as usize != table.len() {
-        return Hpet::Refused(11);
+    if field::u8_at(table, 40) != u8::from(AddressSpace::SystemMemory) {
+        return Err(Refusal::UnknownSpaceOrSize);
     }
-    if field::u8_at(table, 40) != address::space_number(AddressSpace::SystemMemory) {
-        return Hpet::Refused(14);
-    }
-    Hpet::Info(info(table))
+    Ok(info(table))
 }
