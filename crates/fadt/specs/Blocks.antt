@@ -1,13 +1,14 @@
 -- Register blocks, as generic addresses (ACPI 6.5, Table 5.9).
-use Rattle.std.specs.Prelude.{ℕ, ◌+◌, ◌*◌, ◌<◌, ◌≤◌, List, [], ◌∷◌, map, Bool, true, false, ◌&&◌, ◌||◌, slice_index_or}
+use Rattle.std.specs.Prelude.{ℕ, ◌+◌, ◌*◌, List, [], ◌∷◌, Bool, true, false, ◌&&◌, ◌||◌, length, slice_index_or, Result, Ok, Err}
+use Rattle.refusal.specs.declared.Refusal.{Refusal}
+use Rattle.refusal.specs.declared.Refusal.TheVariants.{TooShort, NotThere}
 use Rattle.field.specs.Number.{number}
-use Rattle.field.specs.First.{differ, when}
+use Rattle.field.specs.First.{less, differ, when}
+use Rattle.field.specs.Then.{and_then}
 use Rattle.address.specs.Generic.{generic_address_at}
 use Rattle.address.specs.declared.AddressSpace.TheVariants.{SystemIo}
 use Rattle.address.specs.declared.AccessSize.TheVariants.{Undefined}
 use Rattle.address.specs.declared.GenericAddress.{GenericAddress}
-use Rattle.address.specs.declared.Generic.{Generic}
-use Rattle.address.specs.declared.Generic.TheVariants.{Address, Refused}
 use Rattle.fadt.specs.Room.{lacks}
 use Rattle.fadt.specs.Forms.{form_of, by_form}
 use Rattle.fadt.specs.declared.Place.{Place}
@@ -41,45 +42,32 @@ narrow_address table p =
       address = number table p.narrow 4;
     }
 
-unfoldable pub narrow_block : List ℕ → Place → Generic
+unfoldable pub narrow_block : List ℕ → Place → Result GenericAddress Refusal
 narrow_block table p =
-    when (p.required || differ (number table p.narrow 4) 0) (Address (narrow_address table p)) (Refused 13)
+    when (p.required || differ (number table p.narrow 4) 0) (Ok (narrow_address table p)) (Err NotThere)
 
 -- a block by the form that counts; of the twelve bytes of the wide form the last eight are its address
-unfoldable pub formed_block : List ℕ → Place → Generic
+unfoldable pub formed_block : List ℕ → Place → Result GenericAddress Refusal
 formed_block table p =
-    by_form (form_of table (p.wide + 4)) (generic_address_at table p.wide) (narrow_block table p) (Refused 11)
+    and_then (form_of table (p.wide + 4)) (λ form. by_form form (generic_address_at table p.wide) (narrow_block table p))
 
 -- a block whose length must be 4 is not there with another length, whatever its forms say
-unfoldable pub block : List ℕ → Place → Generic
-block table p = when (p.four && differ (number table p.size 1) 4) (Refused 13) (formed_block table p)
+unfoldable pub block : List ℕ → Place → Result GenericAddress Refusal
+block table p = when (p.four && differ (number table p.size 1) 4) (Err NotThere) (formed_block table p)
 
 -- Where a register block lies.
-unfoldable pub register_block : List ℕ → RegisterBlock → Generic
-register_block table which = when (lacks table 116) (Refused 11) (block table (place_of which))
-
--- the number of a block
-abbrev pub block_number : RegisterBlock → ℕ
-block_number Pm1aEvent = 0
-block_number Pm1bEvent = 1
-block_number Pm1aControl = 2
-block_number Pm1bControl = 3
-block_number Pm2Control = 4
-block_number PmTimer = 5
-block_number Gpe0 = 6
-block_number Gpe1 = 7
+unfoldable pub register_block : List ℕ → RegisterBlock → Result GenericAddress Refusal
+register_block table which = when (lacks table 116) (Err TooShort) (block table (place_of which))
 
 -- the blocks in the order of their numbers, which is that of the table
 abbrev pub blocks : List RegisterBlock
 blocks = Pm1aEvent ∷ Pm1bEvent ∷ Pm1aControl ∷ Pm1bControl ∷ Pm2Control ∷ PmTimer ∷ Gpe0 ∷ Gpe1 ∷ []
 
--- Where the block of a number lies: there is none behind the list.
-unfoldable pub nth_register_block : List ℕ → ℕ → Generic
-nth_register_block table n =
-    when (lacks table 116) (Refused 11) (slice_index_or (map (λ (which : RegisterBlock). block table (place_of which)) blocks) n (Refused 13))
+-- the block of a number: there is none behind the list
+unfoldable pub nth_block : ℕ → Result RegisterBlock Refusal
+nth_block n = when (less n (length blocks)) (Ok (slice_index_or blocks n Pm1aEvent)) (Err NotThere)
 
--- What every place keeps to: its narrow address and its length byte stand in the fixed part.
-pub record Inside (p : Place) : Type 0 where
-  pub narrow_inside : p.narrow ≤ 112
-  pub size_inside : p.size < 116
-  pub wide_bound : p.wide < 1000
+-- Where the block of a number lies.
+unfoldable pub nth_register_block : List ℕ → ℕ → Result GenericAddress Refusal
+nth_register_block table n =
+    when (lacks table 116) (Err TooShort) (and_then (nth_block n) (λ which. block table (place_of which)))

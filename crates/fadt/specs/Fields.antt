@@ -1,11 +1,11 @@
 -- The plain fields of the fixed part (ACPI 6.5, Table 5.9).
-use Rattle.std.specs.Prelude.{ℕ, List}
+use Rattle.std.specs.Prelude.{ℕ, List, Result, Ok, Err}
+use Rattle.refusal.specs.declared.Refusal.{Refusal}
+use Rattle.refusal.specs.declared.Refusal.TheVariants.{TooShort}
 use Rattle.field.specs.Number.{number}
 use Rattle.field.specs.First.{when}
 use Rattle.fadt.specs.Room.{lacks}
 use Rattle.fadt.specs.declared.Fixed.{Fixed}
-use Rattle.fadt.specs.declared.Plain.{Plain}
-use Rattle.fadt.specs.declared.Plain.TheVariants.{Fields, Refused}
 
 -- each field by its offset and its number of bytes
 unfoldable pub fixed_in : List ℕ → Fixed
@@ -33,5 +33,5 @@ fixed_in table =
     }
 
 -- All plain fields at once.
-unfoldable pub fixed_fields : List ℕ → Plain
-fixed_fields table = when (lacks table 116) (Refused 11) (Fields (fixed_in table))
+unfoldable pub fixed_fields : List ℕ → Result Fixed Refusal
+fixed_fields table = when (lacks table 116) (Err TooShort) (Ok (fixed_in table))

@@ -2,125 +2,105 @@
 // Every question takes a slice that is meant to be the table, and has an answer for any slice.
 #![tactic(auto)]
 
-ghost use Rattle.std.specs.Prelude.{◌≡◌, ◌+◌, ◌≤◌, ◌<◌, length};
-ghost use Rattle.fadt.specs.Room.{lacks, early};
+ghost use Rattle.std.specs.Prelude.{◌≡◌, ◌+◌, ◌≤◌, ◌<◌, length, IfOk};
 ghost use Rattle.fadt.specs.Forms.{form_of};
 ghost use Rattle.fadt.specs.Values.{nonzero, formed, facs_address, dsdt_address, reset_value, arm_boot_arch};
-ghost use Rattle.fadt.specs.Blocks.{Inside, narrow_block, formed_block, block, register_block, nth_register_block, block_number};
+ghost use Rattle.fadt.specs.Blocks.{place_of, narrow_block, block, register_block, nth_block, nth_register_block};
 ghost use Rattle.fadt.specs.Registers.{register_at, reset_register, sleep_register, sleep_control_register, sleep_status_register};
 ghost use Rattle.fadt.specs.Fields.{fixed_in, fixed_fields};
-ghost use Rattle.fadt.specs.Profiles.{profile_of, power_profile};
+ghost use Rattle.fadt.specs.Profiles.{profile_of, profile_number, power_profile};
 ghost use Rattle.fadt.specs.Flags.{flag_of};
 
-use address::{AccessSize, AddressSpace, Generic, GenericAddress};
+use address::{AccessSize, AddressSpace, GenericAddress};
+use refusal::Refusal;
 
-// Whether the slice is no table, or does not hold the bytes up to `end`.
-fn lacks(table: &[u8], end: usize) -> bool
-    ensures { result ≡ lacks table.now end }
-{
-    if table.len() < 116 {
-        return true;
-    }
-    (field::u32_at(table, 4) as usize != table.len()) | (table.len() < end)
-}
+mod table;
 
-// Whether the revision is below 2.
-fn early(table: &[u8]) -> bool
-    requires { 116 ≤ length table.now }
-    ensures { result ≡ early table.now }
-{
-    field::u8_at(table, 8) < 2
-}
+use table::Fadt;
 
-// Which form of an address counts. Short: the table does not hold the bytes that would tell.
+// Which form of an address counts.
 #[derive(Clone, Copy)]
 enum Form {
     Wide,
     Narrow,
-    Short,
 }
 
-// The form that counts of an address whose wide form stands at `at`.
-fn form_of(table: &[u8], at: usize) -> Form
-    requires { at < 1024 }
-    ensures { result ≡ form_of table.now at }
-{
-    if lacks(table, 116) {
-        return Form::Short;
+impl Fadt<'_> {
+    // The form that counts of an address whose wide form stands at `at`. The table holds that form if it counts.
+    #[tactic(auto, using(crate::proofs::RoomLaws::tests), unfolding(crate::specs::Forms::form_of))]
+    fn form_of(self, at: usize) -> Result<Form, Refusal>
+        requires { at < 1024 }
+        ensures is { result ≡ form_of self.entry.bytes.now at }
+        ensures room { IfOk result (λ form. form ≡ Form.Wide → at + 8 ≤ length self.entry.bytes.now) }
+    {
+        if self.is_early() {
+            return Ok(Form::Narrow);
+        }
+        self.holds(at + 8)?;
+        if field::u64_at(self.bytes, at) == 0 {
+            return Ok(Form::Narrow);
+        }
+        Ok(Form::Wide)
     }
-    if early(table) {
-        return Form::Narrow;
-    }
-    if lacks(table, at + 8) {
-        return Form::Short;
-    }
-    if field::u64_at(table, at) == 0 {
-        return Form::Narrow;
-    }
-    Form::Wide
-}
 
-// A number of the table, or why there is none.
-#[derive(Clone, Copy)]
-pub enum Value {
-    Found(u64),
-    Refused(u32),
+    // An address that has a narrow and a wide form, by the form that counts.
+    #[tactic(auto, unfolding(crate::specs::Values::formed))]
+    fn formed(self, narrow: usize, wide: usize) -> Result<u64, Refusal>
+        requires { (narrow ≤ 112) × (wide < 1024) }
+        ensures { result ≡ formed self.entry.bytes.now narrow wide }
+    {
+        match self.form_of(wide)? {
+            Form::Wide => nonzero(field::u64_at(self.bytes, wide)),
+            Form::Narrow => nonzero(field::u32_at(self.bytes, narrow) as u64),
+        }
+    }
 }
 
 // An address of zero is none.
-fn nonzero(address: u64) -> Value
+#[tactic(auto, using(crate::proofs::RoomLaws::tests), unfolding(crate::specs::Values::nonzero))]
+fn nonzero(address: u64) -> Result<u64, Refusal>
     ensures { result ≡ nonzero address }
 {
     if address == 0 {
-        return Value::Refused(13);
+        return Err(Refusal::NotThere);
     }
-    Value::Found(address)
-}
-
-// An address that has a narrow and a wide form, by the form that counts.
-fn formed(table: &[u8], narrow: usize, wide: usize) -> Value
-    requires { (narrow ≤ 112) × (wide < 1024) }
-    ensures { result ≡ formed table.now narrow wide }
-{
-    match form_of(table, wide) {
-        Form::Wide => nonzero(field::u64_at(table, wide)),
-        Form::Narrow => nonzero(field::u32_at(table, narrow) as u64),
-        Form::Short => Value::Refused(11),
-    }
+    Ok(address)
 }
 
 // The physical address of the FACS.
-pub fn facs_address(table: &[u8]) -> Value
+#[tactic(auto, using(crate::proofs::RoomLaws::tests), unfolding(crate::specs::Values::formed, crate::specs::Forms::form_of))]
+pub fn facs_address(table: &[u8]) -> Result<u64, Refusal>
     ensures { result ≡ facs_address table.now }
 {
-    formed(table, 36, 132)
+    Fadt::new(table)?.formed(36, 132)
 }
 
 // The physical address of the DSDT.
-pub fn dsdt_address(table: &[u8]) -> Value
+#[tactic(auto, using(crate::proofs::RoomLaws::tests), unfolding(crate::specs::Values::formed, crate::specs::Forms::form_of))]
+pub fn dsdt_address(table: &[u8]) -> Result<u64, Refusal>
     ensures { result ≡ dsdt_address table.now }
 {
-    formed(table, 40, 140)
+    Fadt::new(table)?.formed(40, 140)
 }
 
 // The value that resets the machine when it is written to the reset register.
-pub fn reset_value(table: &[u8]) -> Value
+#[tactic(auto, using(crate::proofs::RoomLaws::tests), unfolding(crate::specs::Values::number_at))]
+pub fn reset_value(table: &[u8]) -> Result<u64, Refusal>
     ensures { result ≡ reset_value table.now }
 {
-    if lacks(table, 129) {
-        return Value::Refused(11);
-    }
-    Value::Found(field::u8_at(table, 128) as u64)
+    let fadt = Fadt::new(table)?;
+    fadt.holds(129)?;
+    Ok(field::u8_at(fadt.bytes, 128) as u64)
 }
 
 // The ARM boot architecture flags.
-pub fn arm_boot_arch(table: &[u8]) -> Value
+#[tactic(auto, using(crate::proofs::RoomLaws::tests), unfolding(crate::specs::Values::number_at))]
+pub fn arm_boot_arch(table: &[u8]) -> Result<u64, Refusal>
     ensures { result ≡ arm_boot_arch table.now }
 {
-    if lacks(table, 131) {
-        return Value::Refused(11);
-    }
-    Value::Found(field::u16_at(table, 129) as u64)
+    let fadt = Fadt::new(table)?;
+    fadt.holds(131)?;
+    Ok(field::u16_at(fadt.bytes, 129) as u64)
 }
 
 // The register blocks, in the order in which the table has them.
@@ -136,6 +116,28 @@ pub enum RegisterBlock {
     Gpe1,
 }
 
+// The register block of a number. The numbers are 0 to 7.
+impl TryFrom<u32> for RegisterBlock {
+    type Error = Refusal;
+
+    ghost try_from_gives = { λ n which. which ≡ nth_block n };
+
+    #[tactic(auto, unfolding(crate::specs::Blocks::nth_block, field::specs::First::less, field::specs::First::when))]
+    fn try_from(n: u32) -> Result<RegisterBlock, Refusal> {
+        match n {
+            0 => Ok(RegisterBlock::Pm1aEvent),
+            1 => Ok(RegisterBlock::Pm1bEvent),
+            2 => Ok(RegisterBlock::Pm1aControl),
+            3 => Ok(RegisterBlock::Pm1bControl),
+            4 => Ok(RegisterBlock::Pm2Control),
+            5 => Ok(RegisterBlock::PmTimer),
+            6 => Ok(RegisterBlock::Gpe0),
+            7 => Ok(RegisterBlock::Gpe1),
+            _ => Err(Refusal::NotThere),
+        }
+    }
+}
+
 // How a register block is described: where its narrow address, its length byte and its wide form stand, whether it
 // answers though its address is zero, and whether it is there only with a length byte of 4.
 #[derive(Clone, Copy)]
@@ -147,192 +149,174 @@ struct Place {
     four: bool,
 }
 
-// The narrow form of a register block.
-fn narrow_block(table: &[u8], place: Place) -> Generic
-    requires { (116 ≤ length table.now) × Inside place }
-    ensures { result ≡ narrow_block table.now place }
-{
-    let narrow = place.narrow;
-    let size = place.size;
-    let address = field::u32_at(table, narrow);
-    if place.required | (address != 0) {
-        return Generic::Address(GenericAddress {
+impl RegisterBlock {
+    // Where the table describes the block: its narrow address and its length byte stand in the fixed part.
+    fn place(self) -> Place
+        ensures is { result ≡ place_of self }
+        ensures narrow { result.narrow ≤ 112 }
+        ensures size { result.size < 116 }
+        ensures wide { result.wide < 1000 }
+    {
+        match self {
+            RegisterBlock::Pm1aEvent => Place {
+                narrow: 56,
+                size: 88,
+                wide: 148,
+                required: true,
+                four: false,
+            },
+            RegisterBlock::Pm1bEvent => Place {
+                narrow: 60,
+                size: 88,
+                wide: 160,
+                required: false,
+                four: false,
+            },
+            RegisterBlock::Pm1aControl => Place {
+                narrow: 64,
+                size: 89,
+                wide: 172,
+                required: true,
+                four: false,
+            },
+            RegisterBlock::Pm1bControl => Place {
+                narrow: 68,
+                size: 89,
+                wide: 184,
+                required: false,
+                four: false,
+            },
+            RegisterBlock::Pm2Control => Place {
+                narrow: 72,
+                size: 90,
+                wide: 196,
+                required: false,
+                four: false,
+            },
+            RegisterBlock::PmTimer => Place {
+                narrow: 76,
+                size: 91,
+                wide: 208,
+                required: false,
+                four: true,
+            },
+            RegisterBlock::Gpe0 => Place {
+                narrow: 80,
+                size: 92,
+                wide: 220,
+                required: false,
+                four: false,
+            },
+            RegisterBlock::Gpe1 => Place {
+                narrow: 84,
+                size: 93,
+                wide: 232,
+                required: false,
+                four: false,
+            },
+        }
+    }
+}
+
+impl Fadt<'_> {
+    // The narrow form of a register block.
+    #[tactic(auto, using(crate::proofs::RoomLaws::tests), unfolding(crate::specs::Blocks::narrow_block, crate::specs::Blocks::narrow_address))]
+    fn narrow_block(self, place: Place) -> Result<GenericAddress, Refusal>
+        requires { (place.narrow ≤ 112) × (place.size < 116) }
+        ensures { result ≡ narrow_block self.entry.bytes.now place }
+    {
+        let address = field::u32_at(self.bytes, place.narrow);
+        if !place.required && address == 0 {
+            return Err(Refusal::NotThere);
+        }
+        Ok(GenericAddress {
             address_space: AddressSpace::SystemIo,
-            bit_width: 8 * (field::u8_at(table, size) as u32),
+            bit_width: 8 * (field::u8_at(self.bytes, place.size) as u32),
             bit_offset: 0,
             access_size: AccessSize::Undefined,
             address: address as u64,
-        });
+        })
     }
-    Generic::Refused(13)
-}
 
-// A register block by the form that counts.
-fn formed_block(table: &[u8], place: Place) -> Generic
-    requires { Inside place }
-    ensures { result ≡ formed_block table.now place }
-{
-    let wide = place.wide;
-    match form_of(table, wide + 4) {
-        Form::Wide => address::generic_address(table, wide),
-        Form::Narrow => narrow_block(table, place),
-        Form::Short => Generic::Refused(11),
+    // A register block by the form that counts. It may be there only with a length of 4.
+    #[tactic(auto, using(crate::proofs::RoomLaws::tests), unfolding(crate::specs::Blocks::block, crate::specs::Blocks::formed_block))]
+    fn block(self, which: RegisterBlock) -> Result<GenericAddress, Refusal>
+        ensures { result ≡ block self.entry.bytes.now (place_of which) }
+    {
+        let place = which.place();
+        if place.four && field::u8_at(self.bytes, place.size) != 4 {
+            return Err(Refusal::NotThere);
+        }
+        match self.form_of(place.wide + 4)? {
+            Form::Wide => address::generic_address(self.bytes, place.wide),
+            Form::Narrow => self.narrow_block(place),
+        }
     }
 }
-
-// A register block, which may be there only with a length of 4.
-fn block(table: &[u8], place: Place) -> Generic
-    requires { (116 ≤ length table.now) × Inside place }
-    ensures { result ≡ block table.now place }
-{
-    let size = place.size;
-    if place.four & (field::u8_at(table, size) != 4) {
-        return Generic::Refused(13);
-    }
-    formed_block(table, place)
-}
-
-// The places of the register blocks, in the same order.
-const PLACES: [Place; 8] = [
-    Place {
-        narrow: 56,
-        size: 88,
-        wide: 148,
-        required: true,
-        four: false,
-    },
-    Place {
-        narrow: 60,
-        size: 88,
-        wide: 160,
-        required: false,
-        four: false,
-    },
-    Place {
-        narrow: 64,
-        size: 89,
-        wide: 172,
-        required: true,
-        four: false,
-    },
-    Place {
-        narrow: 68,
-        size: 89,
-        wide: 184,
-        required: false,
-        four: false,
-    },
-    Place {
-        narrow: 72,
-        size: 90,
-        wide: 196,
-        required: false,
-        four: false,
-    },
-    Place {
-        narrow: 76,
-        size: 91,
-        wide: 208,
-        required: false,
-        four: true,
-    },
-    Place {
-        narrow: 80,
-        size: 92,
-        wide: 220,
-        required: false,
-        four: false,
-    },
-    Place {
-        narrow: 84,
-        size: 93,
-        wide: 232,
-        required: false,
-        four: false,
-    },
-];
 
 // Where the register block of a number lies. The numbers are 0 to 7.
-pub fn nth_register_block(table: &[u8], n: u32) -> Generic
+#[tactic(auto, using(crate::proofs::RoomLaws::tests), unfolding(crate::specs::Blocks::nth_register_block))]
+pub fn nth_register_block(table: &[u8], n: u32) -> Result<GenericAddress, Refusal>
     ensures { result ≡ nth_register_block table.now n }
 {
-    if lacks(table, 116) {
-        return Generic::Refused(11);
-    }
-    let i = n as usize;
-    if 7 < i {
-        return Generic::Refused(13);
-    }
-    block(table, PLACES[i])
-}
-
-// The number of a register block.
-fn block_number(which: RegisterBlock) -> u32
-    ensures { result ≡ block_number which }
-{
-    match which {
-        RegisterBlock::Pm1aEvent => 0,
-        RegisterBlock::Pm1bEvent => 1,
-        RegisterBlock::Pm1aControl => 2,
-        RegisterBlock::Pm1bControl => 3,
-        RegisterBlock::Pm2Control => 4,
-        RegisterBlock::PmTimer => 5,
-        RegisterBlock::Gpe0 => 6,
-        RegisterBlock::Gpe1 => 7,
-    }
+    let fadt = Fadt::new(table)?;
+    fadt.block(RegisterBlock::try_from(n)?)
 }
 
 // Where a register block lies.
-pub fn register_block(table: &[u8], which: RegisterBlock) -> Generic
+#[tactic(auto, using(crate::proofs::RoomLaws::tests), unfolding(crate::specs::Blocks::register_block))]
+pub fn register_block(table: &[u8], which: RegisterBlock) -> Result<GenericAddress, Refusal>
     ensures { result ≡ register_block table.now which }
 {
-    nth_register_block(table, block_number(which))
+    Fadt::new(table)?.block(which)
 }
 
-// The register at an offset, where the table holds it.
-fn register_at(table: &[u8], at: usize) -> Generic
-    requires { at < 1024 }
-    ensures { result ≡ register_at table.now at }
-{
-    if lacks(table, at + 12) {
-        return Generic::Refused(11);
+impl Fadt<'_> {
+    // The register at an offset, where the table holds it.
+    #[tactic(auto, using(crate::proofs::RoomLaws::tests), unfolding(crate::specs::Registers::register_at))]
+    fn register_at(self, at: usize) -> Result<GenericAddress, Refusal>
+        requires { at < 1024 }
+        ensures { result ≡ register_at self.entry.bytes.now at }
+    {
+        self.holds(at + 12)?;
+        address::generic_address(self.bytes, at)
     }
-    address::generic_address(table, at)
+
+    // A sleep register, which a table of revision 0 or 1 does not have.
+    #[tactic(auto, using(crate::proofs::RoomLaws::tests), unfolding(crate::specs::Registers::sleep_register))]
+    fn sleep_register(self, at: usize) -> Result<GenericAddress, Refusal>
+        requires { at < 1024 }
+        ensures { result ≡ sleep_register self.entry.bytes.now at }
+    {
+        if self.is_early() {
+            return Err(Refusal::NotThere);
+        }
+        self.register_at(at)
+    }
 }
 
 // The register that resets the machine.
-pub fn reset_register(table: &[u8]) -> Generic
+#[tactic(auto, using(crate::proofs::RoomLaws::tests), unfolding(crate::specs::Registers::register_at))]
+pub fn reset_register(table: &[u8]) -> Result<GenericAddress, Refusal>
     ensures { result ≡ reset_register table.now }
 {
-    register_at(table, 116)
-}
-
-// A sleep register, which a table of revision 0 or 1 does not have.
-fn sleep_register(table: &[u8], at: usize) -> Generic
-    requires { at < 1024 }
-    ensures { result ≡ sleep_register table.now at }
-{
-    if lacks(table, 116) {
-        return Generic::Refused(11);
-    }
-    if early(table) {
-        return Generic::Refused(13);
-    }
-    register_at(table, at)
+    Fadt::new(table)?.register_at(116)
 }
 
 // The register that puts the machine to sleep.
-pub fn sleep_control_register(table: &[u8]) -> Generic
+#[tactic(auto, using(crate::proofs::RoomLaws::tests), unfolding(crate::specs::Registers::sleep_register))]
+pub fn sleep_control_register(table: &[u8]) -> Result<GenericAddress, Refusal>
     ensures { result ≡ sleep_control_register table.now }
 {
-    sleep_register(table, 244)
+    Fadt::new(table)?.sleep_register(244)
 }
 
 // The register that tells how the machine woke.
-pub fn sleep_status_register(table: &[u8]) -> Generic
+#[tactic(auto, using(crate::proofs::RoomLaws::tests), unfolding(crate::specs::Registers::sleep_register))]
+pub fn sleep_status_register(table: &[u8]) -> Result<GenericAddress, Refusal>
     ensures { result ≡ sleep_status_register table.now }
 {
-    sleep_register(table, 256)
+    Fadt::new(table)?.sleep_register(256)
 }
 
 // The plain fields of the fixed part, under the names of the Rust crate. The last two are flags.
@@ -359,19 +343,13 @@ pub struct Fixed {
     pub flags: u32,
 }
 
-// The plain fields, or why there are none.
-#[derive(Clone, Copy)]
-pub enum Plain {
-    Fields(Fixed),
-    Refused(u32),
-}
-
-// The plain fields of a slice that holds the fixed part.
-fn fixed_in(table: &[u8]) -> Fixed
-    requires { 116 ≤ length table.now }
-    ensures { result ≡ fixed_in table.now }
+// The plain fields of the fixed part, all at once.
+#[tactic(auto, using(crate::proofs::RoomLaws::tests), unfolding(crate::specs::Fields::fixed_fields, crate::specs::Fields::fixed_in))]
+pub fn fixed_fields(table: &[u8]) -> Result<Fixed, Refusal>
+    ensures { result ≡ fixed_fields table.now }
 {
-    Fixed {
+    let table = Fadt::new(table)?.bytes;
+    Ok(Fixed {
         sci_interrupt: field::u16_at(table, 46),
         smi_cmd_port: field::u32_at(table, 48),
         acpi_enable: field::u8_at(table, 52),
@@ -391,17 +369,7 @@ fn fixed_in(table: &[u8]) -> Fixed
         century: field::u8_at(table, 108),
         iapc_boot_arch: field::u16_at(table, 109),
         flags: field::u32_at(table, 112),
-    }
-}
-
-// The plain fields of the fixed part, all at once.
-pub fn fixed_fields(table: &[u8]) -> Plain
-    ensures { result ≡ fixed_fields table.now }
-{
-    if lacks(table, 116) {
-        return Plain::Refused(11);
-    }
-    Plain::Fields(fixed_in(table))
+    })
 }
 
 // What the machine is for, under the names of the Rust crate.
@@ -419,58 +387,66 @@ pub enum PowerProfile {
     Reserved(u8),
 }
 
-// The power profile that the maker prefers, or why it can not be told.
-#[derive(Clone, Copy)]
-pub enum Preferred {
-    Profile(PowerProfile),
-    Refused(u32),
+// The profile of a number.
+impl From<u8> for PowerProfile {
+    ghost from_gives = { λ n profile. profile ≡ profile_of n };
+
+    #[tactic(auto, unfolding(crate::specs::Profiles::profile_of, crate::specs::Profiles::profiles))]
+    fn from(n: u8) -> PowerProfile {
+        match n {
+            0 => PowerProfile::Unspecified,
+            1 => PowerProfile::Desktop,
+            2 => PowerProfile::Mobile,
+            3 => PowerProfile::Workstation,
+            4 => PowerProfile::EnterpriseServer,
+            5 => PowerProfile::SohoServer,
+            6 => PowerProfile::AppliancePc,
+            7 => PowerProfile::PerformanceServer,
+            8 => PowerProfile::Tablet,
+            _ => PowerProfile::Reserved(n),
+        }
+    }
 }
 
-// The profiles of the numbers 0 to 8.
-const PROFILES: [PowerProfile; 9] = [
-    PowerProfile::Unspecified,
-    PowerProfile::Desktop,
-    PowerProfile::Mobile,
-    PowerProfile::Workstation,
-    PowerProfile::EnterpriseServer,
-    PowerProfile::SohoServer,
-    PowerProfile::AppliancePc,
-    PowerProfile::PerformanceServer,
-    PowerProfile::Tablet,
-];
+// The number of a profile, as the table has it.
+impl From<PowerProfile> for u8 {
+    ghost from_gives = { λ profile n. n ≡ profile_number profile };
 
-// The profile of a number.
-fn profile_of(n: u8) -> PowerProfile
-    ensures { result ≡ profile_of n }
-{
-    let i = n as usize;
-    if i < 9 {
-        return PROFILES[i];
+    fn from(profile: PowerProfile) -> u8 {
+        match profile {
+            PowerProfile::Unspecified => 0,
+            PowerProfile::Desktop => 1,
+            PowerProfile::Mobile => 2,
+            PowerProfile::Workstation => 3,
+            PowerProfile::EnterpriseServer => 4,
+            PowerProfile::SohoServer => 5,
+            PowerProfile::AppliancePc => 6,
+            PowerProfile::PerformanceServer => 7,
+            PowerProfile::Tablet => 8,
+            PowerProfile::Reserved(n) => n,
+        }
     }
-    PowerProfile::Reserved(n)
 }
 
 // The preferred power profile.
-pub fn power_profile(table: &[u8]) -> Preferred
+#[tactic(auto, using(crate::proofs::RoomLaws::tests), unfolding(crate::specs::Profiles::power_profile))]
+pub fn power_profile(table: &[u8]) -> Result<PowerProfile, Refusal>
     ensures { result ≡ power_profile table.now }
 {
-    if lacks(table, 116) {
-        return Preferred::Refused(11);
-    }
-    Preferred::Profile(profile_of(field::u8_at(table, 45)))
+    let table = Fadt::new(table)?.bytes;
+    Ok(PowerProfile::from(field::u8_at(table, 45)))
 }
 
 // Whether a bit of a field of flags is set. No field has bits from 64 on.
+#[tactic(auto, using(crate::proofs::FlagLaws::flag_past), unfolding(crate::specs::Flags::flag_of))]
 pub fn flag(word: u64, bit: u32) -> bool
     ensures { result ≡ flag_of word bit }
 {
-    if 63 < bit {
-        return false;
-    }
-    (word >> bit) % 2 == 1
+    bit < 64 && (word >> bit) % 2 == 1
 }
 
-// The bits of the fixed feature flags (ACPI 6.5, Table 5.10), under the names of the Rust crate.
+// The bits of the fixed feature flags (ACPI 6.5, Table 5.10), under the names of the Rust crate. They are constants and no
+// enum, since `flag` takes any bit of any field.
 pub const SUPPORTS_EQUIVALENT_TO_WBINVD: u32 = 0;
 
 pub const WBINVD_FLUSHES_ALL_CACHES: u32 = 1;
