@@ -1,6 +1,9 @@
-// What the programs that replay stored cases share: reading a file, the records of a file of cases, and the count of the answers.
+// What the programs that replay stored cases share: reading a file, its records, the question that a program asks of each, and the
+// count of the answers.
 #![tactic(auto)]
 
+pub mod case;
 pub mod file;
-pub mod record;
-pub mod tally;
+mod record;
+pub mod replay;
+mod tally;

@@ -1,147 +1,131 @@
-// The records of a stored file of cases, as tests/reference/make_cases.py lays them out. Every function here takes any bytes and any
-// offset: what the file does not have reads as 0, and offsets that are too large stay at the largest one. Whoever reads a record
-// tests where it ends, so a file that is cut off is noticed there.
+// The records of a stored file, as tests/reference/make_cases.py lays them out: images, each with the questions about it behind it.
+// A record is taken only where all of it lies in the file, so a file that is cut off is noticed there.
+ghost use Rattle.std.specs.Prelude.{◌≡◌, ◌↔◌, length, drop, replicate, IsTrue, OnSome};
 
-// A list of numbers of eight bytes: where the first one stands, how many there are, and where the list ends.
+// An image: the list of its ranges, three numbers each, and its bytes.
 #[derive(Clone, Copy)]
-pub struct List {
-    pub at: usize,
-    pub count: usize,
-    pub end: usize,
+pub struct Image<'a> {
+    pub ranges: &'a [[u8; 8]],
+    pub bytes: &'a [u8],
 }
 
-// An image: its ranges, where its bytes stand, how many there are, and where the next record begins.
+// A question: where it stands in the file, its number, what is changed in the image for it, what it is asked about, and the number
+// and the values of the answer that is wanted.
 #[derive(Clone, Copy)]
-pub struct Image {
-    pub ranges: List,
+pub struct Question<'a> {
     pub at: usize,
-    pub size: usize,
-    pub end: usize,
-}
-
-// A question: its number, what is changed in the image for it, what it is asked about, and the answer that is wanted.
-#[derive(Clone, Copy)]
-pub struct Question {
     pub id: u32,
-    pub patches: List,
-    pub arguments: List,
+    pub patches: &'a [[u8; 8]],
+    pub arguments: &'a [[u8; 8]],
     pub answer: u32,
-    pub values: List,
+    pub values: &'a [[u8; 8]],
 }
 
-pub fn u8_in(file: &[u8], at: usize) -> u8 {
-    if file.len() <= at {
-        return 0;
-    }
-    file[at]
+#[derive(Clone, Copy)]
+pub enum Record<'a> {
+    Image(Image<'a>),
+    Question(Question<'a>),
 }
 
-pub fn u32_in(file: &[u8], at: usize) -> u32 {
-    if file.len() < 4 {
-        return 0;
-    }
-    if file.len() - 4 < at {
-        return 0;
-    }
-    field::u32_at(file, at)
+// Reads a file on from a place. Where what it wants to read is cut off, it may stand at any place behind.
+#[derive(Clone, Copy)]
+pub struct Reader<'a> {
+    file: &'a [u8],
+    at: usize,
 }
 
-pub fn u64_in(file: &[u8], at: usize) -> u64 {
-    if file.len() < 8 {
-        return 0;
-    }
-    if file.len() - 8 < at {
-        return 0;
-    }
-    field::u64_at(file, at)
-}
+impl<'a> Reader<'a> {
+    ghost use Rattle.cases.specs.Reader.{Moves};
 
-// The offset that lies so many bytes behind another.
-pub fn past(at: usize, bytes: usize) -> usize {
-    if usize::MAX - at < bytes {
-        return usize::MAX;
+    pub fn new(file: &'a [u8]) -> Self {
+        Reader { file, at: 0 }
     }
-    at + bytes
-}
 
-// The list whose count stands at an offset.
-fn list_at(file: &[u8], at: usize) -> List {
-    let count = u32_in(file, at) as usize;
-    let first = past(at, 4);
-    List {
-        at: first,
-        count,
-        end: past(first, count * 8),
+    pub fn at(&self) -> usize {
+        self.at
     }
-}
 
-// The image that begins at an offset. Zeros fill its bytes up to a multiple of 4.
-pub fn image_at(file: &[u8], at: usize) -> Image {
-    let ranges = list_at(file, past(at, 4));
-    let size = u32_in(file, ranges.end) as usize;
-    let first = past(ranges.end, 4);
-    Image {
-        ranges,
-        at: first,
-        size,
-        end: past(first, (size + 3) / 4 * 4),
+    fn bytes(&mut self, count: usize) -> Option<&'a [u8]>
+        ensures { OnSome result (Moves self.old self.new count) }
+    {
+        let end = self.at.checked_add(count)?;
+        let bytes = self.file.get(self.at..end)?;
+        self.at = end;
+        Some(bytes)
     }
-}
 
-// The question that begins at an offset.
-pub fn question_at(file: &[u8], at: usize) -> Question {
-    let patches = list_at(file, past(at, 8));
-    let arguments = list_at(file, patches.end);
-    let values = list_at(file, past(arguments.end, 4));
-    Question {
-        id: u32_in(file, past(at, 4)),
-        patches,
-        arguments,
-        answer: u32_in(file, arguments.end),
-        values,
+    fn number(&mut self) -> Option<u32>
+        ensures { OnSome result (Moves self.old self.new 4) }
+    {
+        let (number, _) = self.bytes(4)?.split_first_chunk()?;
+        Some(u32::from_le_bytes(*number))
     }
-}
 
-// The k-th number of a list, counted from 0.
-pub fn number_in(file: &[u8], list: List, k: u32) -> u64 {
-    u64_in(file, past(list.at, k as usize * 8))
-}
-
-// Copies the bytes of the file from an offset on.
-pub fn copy_bytes(file: &[u8], from: usize, to: &mut [u8]) {
-    let mut at = from;
-    let mut i = 0;
-    while i < to.len() {
-        to[i] = u8_in(file, at);
-        at = past(at, 1);
-        i += 1;
+    // A list of numbers of eight bytes each, behind their count.
+    fn numbers(&mut self) -> Option<&'a [[u8; 8]]>
+        ensures { OnSome result (Moves self.old self.new 4) }
+    {
+        let count = self.number()? as usize;
+        let (numbers, _) = self.bytes(count * 8)?.as_chunks();
+        Some(numbers)
     }
-}
 
-// Copies the numbers of the file from an offset on.
-pub fn copy_words(file: &[u8], from: usize, to: &mut [u64]) {
-    let mut at = from;
-    let mut i = 0;
-    while i < to.len() {
-        to[i] = u64_in(file, at);
-        at = past(at, 8);
-        i += 1;
+    // Zeros fill the bytes of an image up to a multiple of 4.
+    fn image(&mut self) -> Option<Image<'a>>
+        ensures { OnSome result (Moves self.old self.new 4) }
+    {
+        let ranges = self.numbers()?;
+        let size = self.number()? as usize;
+        let bytes = self.bytes(size)?;
+        self.bytes(size.next_multiple_of(4) - size)?;
+        Some(Image { ranges, bytes })
     }
-}
 
-// Changes the bytes of an image that the patches name, each an offset and a byte in four bytes each. False where an offset is
-// outside of the image.
-pub fn patch(file: &[u8], patches: List, image: &mut [u8]) -> bool {
-    let mut at = patches.at;
-    let mut left = patches.count;
-    while 0 < left {
-        let offset = u32_in(file, at) as usize;
-        if image.len() <= offset {
-            return false;
+    fn question(&mut self, at: usize) -> Option<Question<'a>>
+        ensures { OnSome result (Moves self.old self.new 4) }
+    {
+        Some(Question {
+            at,
+            id: self.number()?,
+            patches: self.numbers()?,
+            arguments: self.numbers()?,
+            answer: self.number()?,
+            values: self.numbers()?,
+        })
+    }
+
+    fn record(&mut self) -> Option<Record<'a>>
+        ensures { OnSome result (Moves self.old self.new 4) }
+    {
+        let at = self.at;
+        match self.number()? {
+            1 => Some(Record::Image(self.image()?)),
+            2 => Some(Record::Question(self.question(at)?)),
+            _ => None,
         }
-        image[offset] = (u32_in(file, past(at, 4)) % 256) as u8;
-        at = past(at, 8);
-        left -= 1;
     }
-    true
+
+    // Whether the record of the end stands here, and nothing behind it.
+    pub fn is_at_end(&self) -> bool
+        ensures { IsTrue result ↔ (drop self.now.at self.now.file.now ≡ replicate 4 0) }
+    {
+        self.file.get(self.at..) == Some(&[0; 4])
+    }
+}
+
+// The records in order, up to the first that can't be read or is none.
+impl<'a> Iterator for Reader<'a> {
+    ghost use Rattle.std.specs.Prelude.{◌-◌};
+    ghost use Rattle.std.specs.Iterator.{at_most};
+
+    type Item = Record<'a>;
+
+    ghost remaining = { λ reader. at_most (length reader.file.now - reader.at) };
+
+    fn next(&mut self) -> Option<Record<'a>> {
+        let mut ahead = *self;
+        let record = ahead.record()?;
+        *self = ahead;
+        Some(record)
+    }
 }

@@ -1,87 +1,67 @@
-// How many questions were asked and how many answers differed. The tallies of question n stand at 2 n and at 2 n + 1, and those at
-// 0 and 1 are the sums.
-use crate::record;
-use std::io;
+// How many questions were asked and how many answers differed, of each question and of all.
+ghost use Rattle.std.specs.Prelude.{◌≡◌, ◌+◌, min, if◌then◌else◌};
+
+use std::alloc::{AllocError, Global};
+use std::collections::BTreeMap;
+use std::{fmt, io};
 
 // So many differences are shown; the others are counted.
 const SHOWN: u64 = 10;
 
-// One more, as far as the number goes.
-fn more(n: u64) -> u64 {
-    if n == u64::MAX {
-        return n;
+#[derive(Clone, Copy, Default)]
+pub struct Count {
+    pub asked: u64,
+    pub differed: u64,
+}
+
+impl Count {
+    // Both numbers go as far as they can.
+    pub fn note(&mut self, same: bool)
+        ensures asked { self.new.asked ≡ min (self.old.asked + 1) u64.MAX }
+        ensures differed { self.new.differed ≡ min (self.old.differed + (if same then 0 else 1)) u64.MAX }
+    {
+        self.asked = self.asked.saturating_add(1);
+        self.differed = self.differed.saturating_add(u64::from(!same));
     }
-    n + 1
 }
 
-fn count(tallies: &mut [u64], i: usize) {
-    if i < tallies.len() {
-        tallies[i] = more(tallies[i]);
+impl fmt::Display for Count {
+    fn fmt<W: fmt::Write>(&self, f: &mut fmt::Formatter<W>) -> fmt::Result {
+        write!(f, "{} asked, {} differ", self.asked, self.differed)
     }
 }
 
-fn tally(tallies: &[u64], i: usize) -> u64 {
-    if tallies.len() <= i {
-        return 0;
+#[derive(Drop)]
+pub struct Tally {
+    all: Count,
+    by_question: BTreeMap<u32, Count>,
+}
+
+impl Tally {
+    pub fn new(alloc: Global) -> Self {
+        Tally {
+            all: Count::default(),
+            by_question: BTreeMap::new(alloc),
+        }
     }
-    tallies[i]
-}
 
-fn show(rt: &impl Print, at: usize, q: record::Question, got: u32) -> io::Result<()> {
-    print!(rt;
-        "record at {at}, question {}: wanted {}, got {got}",
-        q.id, q.answer
-    )?;
-    if q.answer == got {
-        print!(rt; " with other values")?;
+    // Counts a question, and says whether its answer is one of the first that differ.
+    pub fn note(&mut self, id: u32, same: bool) -> Result<bool, AllocError> {
+        let shown = !same && self.all.differed < SHOWN;
+        self.all.note(same);
+        self.by_question
+            .entry(id)?
+            .or_insert(Count::default())
+            .note(same);
+        Ok(shown)
     }
-    println!(rt)
-}
 
-// Counts a question that was asked. It is counted also where the line that shows it can't be written.
-pub fn note(
-    rt: &impl Print,
-    tallies: &mut [u64],
-    at: usize,
-    q: record::Question,
-    got: u32,
-    same: bool,
-) -> io::Result<()> {
-    let i = q.id as usize * 2;
-    count(tallies, 0);
-    count(tallies, i);
-    if same {
-        return Ok(());
+    // The line of each question, and then the sums.
+    pub fn print(&self, rt: &impl Print, labels: &[(u32, &str)]) -> io::Result<()> {
+        for (id, label) in labels {
+            let count = self.by_question.get(id).copied().unwrap_or_default();
+            println!(rt; "{label}: {count}")?;
+        }
+        println!(rt; "{} cases, {} differ", self.all.asked, self.all.differed)
     }
-    let differed_before = tally(tallies, 1);
-    count(tallies, 1);
-    count(tallies, i + 1);
-    if differed_before < SHOWN {
-        show(rt, at, q, got)?;
-    }
-    Ok(())
-}
-
-pub fn print_question(rt: &impl Print, tallies: &[u64], id: u32, name: &[u8]) -> io::Result<()> {
-    let i = id as usize * 2;
-    print!(rt; "question {id}, ")?;
-    rt.write_all(name)?;
-    println!(rt;
-        ": {} asked, {} differ",
-        tally(tallies, i),
-        tally(tallies, i + 1)
-    )
-}
-
-pub fn print_sums(rt: &impl Print, tallies: &[u64]) -> io::Result<()> {
-    println!(rt; "{} cases, {} differ", tally(tallies, 0), tally(tallies, 1))
-}
-
-// Writes that the answers of the second file come next.
-pub fn print_heading(rt: &impl Print) -> io::Result<()> {
-    println!(rt; "answers of the comparison with the crate:")
-}
-
-pub fn print_malformed(rt: &impl Print, at: usize) -> io::Result<()> {
-    println!(rt; "no record can be read at {at}")
 }

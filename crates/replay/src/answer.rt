@@ -1,188 +1,156 @@
-// The ten questions, asked of the proved functions, and their answers as the stored file has them: a number, and a list of values
-// that is empty unless the number is 0.
-use crate::record;
+// The ten questions about an image, asked of the proved functions, and the values of their answers as the stored file has them.
+use cases::case::{Case, Outcome, low};
+use cases::replay::Questions;
+use rsdp::{RootPointer, Rsdp, Search};
+use sdt::Wanted;
+use std::alloc::{AllocError, Global};
+use tables::{Entry, Found, Root, RootKind, RootTable, Table};
 
-#[derive(Clone, Copy)]
-pub struct Answer {
-    pub number: u32,
-    pub count: usize,
-    pub values: [u64; 6],
-}
+// The largest image has an area of the search and the word at 40e.
+const IMAGE_ROOM: usize = 0x2_0004;
 
-// What a question is asked about. A question that has fewer arguments leaves the last ones alone.
-#[derive(Clone, Copy)]
-pub struct Arguments {
-    pub first: u64,
-    pub second: u64,
-    pub third: u64,
-    pub fourth: u64,
-}
+// Room for 66 ranges, two more than a right list has.
+const RANGES_ROOM: usize = 66 * 3;
 
-pub fn arguments_in(file: &[u8], list: record::List) -> Arguments {
-    Arguments {
-        first: record::number_in(file, list, 0),
-        second: record::number_in(file, list, 1),
-        third: record::number_in(file, list, 2),
-        fourth: record::number_in(file, list, 3),
+pub struct ImageQuestions;
+
+impl Questions for ImageQuestions {
+    const ROOM: usize = 0x10_0000;
+
+    const LABELS: &'static [(u32, &'static str)] = &[
+        (1, "1 is_right"),
+        (2, "2 root_pointer_at"),
+        (3, "3 search_for_on_bios"),
+        (4, "4 root_table"),
+        (5, "5 root_entry"),
+        (6, "6 find_table"),
+        (7, "7 nth_table"),
+        (8, "8 header"),
+        (9, "9 table_at"),
+        (10, "10 table_at of any signature"),
+    ];
+
+    fn ask(&self, _alloc: Global, case: &Case) -> Result<Option<Outcome>, AllocError> {
+        Ok(ask(case))
     }
 }
 
-fn refused(number: u32) -> Answer {
-    Answer {
-        number,
-        count: 0,
-        values: [0; 6],
+// Asks the question that has this number and so many arguments. tests/reference/reading.py has the same numbers.
+fn ask(case: &Case) -> Option<Outcome> {
+    let image = case.image.as_slice();
+    let ranges = case.ranges.as_slice();
+    if IMAGE_ROOM < image.len() || RANGES_ROOM < ranges.len() {
+        return None;
     }
-}
-
-fn of_ranges(right: bool) -> Answer {
-    if right {
-        return refused(0);
-    }
-    refused(1)
-}
-
-// Revision, length, RSDT address, XSDT address.
-fn of_pointer(pointer: rsdp::RootPointer) -> Answer {
-    match pointer {
-        rsdp::RootPointer::Refused(n) => refused(n),
-        rsdp::RootPointer::Valid(p) => Answer {
-            number: 0,
-            count: 4,
-            values: [
-                p.revision as u64,
-                p.length as u64,
-                p.rsdt_address as u64,
-                p.xsdt_address,
-                0,
-                0,
-            ],
-        },
-    }
-}
-
-fn of_address(address: u64) -> Answer {
-    Answer {
-        number: 0,
-        count: 1,
-        values: [address, 0, 0, 0, 0, 0],
-    }
-}
-
-fn of_search(search: rsdp::Search) -> Answer {
-    match search {
-        rsdp::Search::Refused(n) => refused(n),
-        rsdp::Search::At(address) => of_address(address),
-    }
-}
-
-fn of_entry(entry: tables::Entry) -> Answer {
-    match entry {
-        tables::Entry::Refused(n) => refused(n),
-        tables::Entry::At(address) => of_address(address),
-    }
-}
-
-fn kind_number(kind: tables::RootKind) -> u64 {
-    match kind {
-        tables::RootKind::Rsdt => 0,
-        tables::RootKind::Xsdt => 1,
-    }
-}
-
-// Kind, address, offset, length, size of an entry, number of entries.
-fn of_root(root: tables::Root) -> Answer {
-    match root {
-        tables::Root::Refused(n) => refused(n),
-        tables::Root::Table(t) => {
-            let kind = t.kind;
-            Answer {
-                number: 0,
-                count: 6,
-                values: [
-                    kind_number(kind),
-                    t.address,
-                    t.at as u64,
-                    t.len as u64,
-                    t.entry_size as u64,
-                    t.entries as u64,
-                ],
-            }
+    let stored = &case.stored;
+    let outcome = match (case.id, case.arguments.as_slice()) {
+        (1, []) => stored.outcome(right(memory::is_right(image, ranges))),
+        (2, [address]) => {
+            stored.outcome(pointer(rsdp::root_pointer_at(image, ranges, *address)).map(of_pointer))
         }
-    }
-}
-
-// Address, offset, length.
-fn of_table(found: tables::Found) -> Answer {
-    match found {
-        tables::Found::Refused(n) => refused(n),
-        tables::Found::Table(t) => Answer {
-            number: 0,
-            count: 3,
-            values: [t.address, t.at as u64, t.len as u64, 0, 0, 0],
-        },
-    }
-}
-
-// Signatures and least lengths have four bytes, and the file has eight for every argument.
-fn low(x: u64) -> u32 {
-    (x % 0x1_0000_0000) as u32
-}
-
-// The answer to a question about an image. tests/reference/reading.py has the same numbers for the questions.
-pub fn ask(image: &[u8], ranges: &[u64], id: u32, a: Arguments) -> Answer {
-    match id {
-        1 => of_ranges(memory::is_right(image, ranges)),
-        2 => of_pointer(rsdp::root_pointer_at(image, ranges, a.first)),
-        3 => of_search(rsdp::search_for_on_bios(image, ranges)),
-        4 => of_root(tables::root_table(image, ranges, a.first)),
-        5 => of_entry(tables::root_entry(image, ranges, a.first, a.second)),
-        6 => of_table(tables::find_table(image, ranges, a.first, low(a.second), low(a.third))),
-        7 => of_table(tables::nth_table(
-            image,
-            ranges,
-            a.first,
-            sdt::Wanted::Signature(low(a.second)),
-            low(a.third),
-            a.fourth,
-        )),
-        8 => of_table(tables::header(image, ranges, a.first, a.second)),
-        9 => of_table(tables::table_at(
-            image,
-            ranges,
-            a.first,
-            sdt::Wanted::Signature(low(a.second)),
-            low(a.third),
-        )),
-        _ => of_table(tables::table_at(image, ranges, a.first, sdt::Wanted::Any, 36)),
-    }
-}
-
-// Whether the first values are those that stand in the file from an offset on.
-fn are_stored(file: &[u8], from: usize, values: [u64; 6], count: usize) -> bool {
-    let mut at = from;
-    let mut i = 0;
-    while i < 6 {
-        if count <= i {
-            return true;
+        (3, []) => stored.outcome(search(rsdp::search_for_on_bios(image, ranges)).map(of_address)),
+        (4, [rsdp]) => stored.outcome(root(tables::root_table(image, ranges, *rsdp)).map(of_root)),
+        (5, [rsdp, k]) => {
+            stored.outcome(entry(tables::root_entry(image, ranges, *rsdp, *k)).map(of_address))
         }
-        if record::u64_in(file, at) != values[i] {
-            return false;
+        (6, [rsdp, signature, least]) => {
+            let found = tables::find_table(image, ranges, *rsdp, low(*signature), low(*least));
+            stored.outcome(table(found).map(of_table))
         }
-        at = record::past(at, 8);
-        i += 1;
-    }
-    true
+        (7, [rsdp, signature, least, n]) => {
+            let wanted = Wanted::Signature(low(*signature));
+            let found = tables::nth_table(image, ranges, *rsdp, wanted, low(*least), *n);
+            stored.outcome(table(found).map(of_table))
+        }
+        (8, [rsdp, n]) => {
+            stored.outcome(table(tables::header(image, ranges, *rsdp, *n)).map(of_table))
+        }
+        (9, [address, signature, least]) => {
+            let wanted = Wanted::Signature(low(*signature));
+            let found = tables::table_at(image, ranges, *address, wanted, low(*least));
+            stored.outcome(table(found).map(of_table))
+        }
+        (10, [address]) => {
+            let found = tables::table_at(image, ranges, *address, Wanted::Any, 36);
+            stored.outcome(table(found).map(of_table))
+        }
+        _ => return None,
+    };
+    Some(outcome)
 }
 
-// Whether the answer is the stored one.
-pub fn is_stored(file: &[u8], q: record::Question, a: Answer) -> bool {
-    if a.number != q.answer {
-        return false;
+// The values of the answers.
+
+fn of_pointer(p: Rsdp) -> [u64; 4] {
+    [
+        u64::from(p.revision),
+        u64::from(p.length),
+        u64::from(p.rsdt_address),
+        p.xsdt_address,
+    ]
+}
+
+fn of_address(address: u64) -> [u64; 1] {
+    [address]
+}
+
+fn of_root(t: RootTable) -> [u64; 6] {
+    let kind = match t.kind {
+        RootKind::Rsdt => 0,
+        RootKind::Xsdt => 1,
+    };
+    [
+        kind,
+        t.address,
+        t.at as u64,
+        t.len as u64,
+        t.entry_size as u64,
+        t.entries as u64,
+    ]
+}
+
+fn of_table(t: Table) -> [u64; 3] {
+    [t.address, t.at as u64, t.len as u64]
+}
+
+// The answers as results.
+
+// A list of ranges that is not right is refused by the number 1.
+fn right(is_right: bool) -> Result<[u64; 0], u32> {
+    if is_right { Ok([]) } else { Err(1) }
+}
+
+fn pointer(answer: RootPointer) -> Result<Rsdp, u32> {
+    match answer {
+        RootPointer::Valid(p) => Ok(p),
+        RootPointer::Refused(n) => Err(n),
     }
-    if a.count != q.values.count {
-        return false;
+}
+
+fn search(answer: Search) -> Result<u64, u32> {
+    match answer {
+        Search::At(address) => Ok(address),
+        Search::Refused(n) => Err(n),
     }
-    let values = a.values;
-    are_stored(file, q.values.at, values, a.count)
+}
+
+fn root(answer: Root) -> Result<RootTable, u32> {
+    match answer {
+        Root::Table(t) => Ok(t),
+        Root::Refused(n) => Err(n),
+    }
+}
+
+fn entry(answer: Entry) -> Result<u64, u32> {
+    match answer {
+        Entry::At(address) => Ok(address),
+        Entry::Refused(n) => Err(n),
+    }
+}
+
+fn table(answer: Found) -> Result<Table, u32> {
+    match answer {
+        Found::Table(t) => Ok(t),
+        Found::Refused(n) => Err(n),
+    }
 }

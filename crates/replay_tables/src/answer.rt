@@ -1,331 +1,148 @@
-// The questions about a table, asked of the proved functions, and their answers as the stored file has them: a number, and a list of
-// values that is empty unless the number is 0. tests/reference/reading.py has the same numbers for the questions.
-use address::Generic;
-use cases::record;
+// The questions about a table, asked of the proved functions, and the values of their answers as the stored file has them.
+use crate::lists;
+use address::{Generic, GenericAddress};
+use cases::case::{Case, Outcome, low};
+use cases::replay::Questions;
+use fadt::{Plain, PowerProfile, Preferred, Value};
+use hpet::{Hpet, HpetInfo, PageProtection};
+use madt::{Madt, MadtEntry};
+use mcfg::{EntryCount, KthEntry, McfgEntry, PhysicalAddress};
+use platform::{Mailbox, Model};
+use std::alloc::{AllocError, Global};
 
-#[derive(Clone, Copy)]
-pub struct Answer {
-    pub number: u32,
-    pub count: usize,
-    pub values: [u64; 10],
-}
+// Room for a table of 4,096 processors.
+const TABLE_ROOM: usize = 36864;
 
-// What a question is asked about. A question that has fewer arguments leaves the last ones alone.
-#[derive(Clone, Copy)]
-pub struct Arguments {
-    pub first: u64,
-    pub second: u64,
-    pub third: u64,
-    pub fourth: u64,
-}
+pub struct TableQuestions;
 
-pub fn arguments_in(file: &[u8], list: record::List) -> Arguments {
-    Arguments {
-        first: record::number_in(file, list, 0),
-        second: record::number_in(file, list, 1),
-        third: record::number_in(file, list, 2),
-        fourth: record::number_in(file, list, 3),
-    }
-}
+impl Questions for TableQuestions {
+    const ROOM: usize = 0x20_0000;
 
-fn refused(number: u32) -> Answer {
-    Answer {
-        number,
-        count: 0,
-        values: [0; 10],
-    }
-}
+    const LABELS: &'static [(u32, &'static str)] = &[
+        (20, "question 20, MCFG, number of entries"),
+        (21, "question 21, MCFG, entry"),
+        (22, "question 22, MCFG, configuration space of a function"),
+        (30, "question 30, HPET"),
+        (40, "question 40, FADT, register"),
+        (41, "question 41, FADT, firmware control"),
+        (42, "question 42, FADT, DSDT"),
+        (43, "question 43, FADT, plain field"),
+        (44, "question 44, FADT, flag"),
+        (50, "question 50, MADT, fixed part"),
+        (51, "question 51, MADT, entry"),
+        (52, "question 52, interrupt model"),
+        (53, "question 53, lists of the interrupt model"),
+        (54, "question 54, mailbox"),
+    ];
 
-fn of_one(value: u64) -> Answer {
-    Answer {
-        number: 0,
-        count: 1,
-        values: [value, 0, 0, 0, 0, 0, 0, 0, 0, 0],
-    }
-}
-
-fn bit(b: bool) -> u64 {
-    if b { 1 } else { 0 }
-}
-
-fn of_count(count: mcfg::EntryCount) -> Answer {
-    match count {
-        mcfg::EntryCount::Refused(n) => refused(n),
-        mcfg::EntryCount::Count(n) => of_one(n as u64),
-    }
-}
-
-// Base, segment group, first bus, last bus.
-fn of_window(entry: mcfg::KthEntry) -> Answer {
-    match entry {
-        mcfg::KthEntry::Refused(n) => refused(n),
-        mcfg::KthEntry::Entry(e) => Answer {
-            number: 0,
-            count: 4,
-            values: [
-                e.base_address,
-                e.pci_segment_group as u64,
-                e.bus_number_start as u64,
-                e.bus_number_end as u64,
-                0,
-                0,
-                0,
-                0,
-                0,
-                0,
-            ],
-        },
-    }
-}
-
-fn of_physical(address: mcfg::PhysicalAddress) -> Answer {
-    match address {
-        mcfg::PhysicalAddress::Refused(n) => refused(n),
-        mcfg::PhysicalAddress::Address(at) => of_one(at),
-    }
-}
-
-fn protection_number(p: hpet::PageProtection) -> u64 {
-    match p {
-        hpet::PageProtection::None => 0,
-        hpet::PageProtection::Protected4K => 1,
-        hpet::PageProtection::Protected64K => 2,
-        hpet::PageProtection::Other => 3,
-    }
-}
-
-// Revision, comparators, wide counter, legacy capable, vendor, base address, number, minimum tick, page protection.
-fn of_hpet(found: hpet::Hpet) -> Answer {
-    match found {
-        hpet::Hpet::Refused(n) => refused(n),
-        hpet::Hpet::Info(h) => {
-            let protection = h.page_protection;
-            Answer {
-                number: 0,
-                count: 9,
-                values: [
-                    h.hardware_rev as u64,
-                    h.num_comparators as u64,
-                    bit(h.main_counter_is_64bits),
-                    bit(h.legacy_irq_capable),
-                    h.pci_vendor_id as u64,
-                    h.base_address,
-                    h.hpet_number as u64,
-                    h.clock_tick_unit as u64,
-                    protection_number(protection),
-                    0,
-                ],
-            }
+    fn ask(&self, alloc: Global, case: &Case) -> Result<Option<Outcome>, AllocError> {
+        if TABLE_ROOM < case.image.len() {
+            return Ok(None);
+        }
+        match (case.id, case.arguments.as_slice()) {
+            (53, [p, i, o, n, l]) => lists::ask(alloc, case, [*p, *i, *o, *n, *l]),
+            _ => Ok(ask(case)),
         }
     }
 }
 
-// Space, bit width, bit offset, access size, address.
-fn of_generic(generic: Generic) -> Answer {
-    match generic {
-        Generic::Refused(n) => refused(n),
-        Generic::Address(a) => {
-            let space = a.address_space;
-            let size = a.access_size;
-            Answer {
-                number: 0,
-                count: 5,
-                values: [
-                    address::space_number(space) as u64,
-                    a.bit_width as u64,
-                    a.bit_offset as u64,
-                    address::size_number(size) as u64,
-                    a.address,
-                    0,
-                    0,
-                    0,
-                    0,
-                    0,
-                ],
-            }
+// Asks the question that has this number and so many arguments, other than the one for the lists. tests/reference/reading.py has
+// the same numbers.
+fn ask(case: &Case) -> Option<Outcome> {
+    let table = case.image.as_slice();
+    let stored = &case.stored;
+    let outcome = match (case.id, case.arguments.as_slice()) {
+        (20, []) => stored.outcome(count(mcfg::entry_count(table)).map(of_length)),
+        (21, [k]) => stored.outcome(window(mcfg::entry(table, *k as usize)).map(of_window)),
+        (22, [segment, bus, device, function]) => {
+            let answer = mcfg::physical_address(
+                table,
+                low_half(*segment),
+                low_byte(*bus),
+                low_byte(*device),
+                low_byte(*function),
+            );
+            stored.outcome(physical(answer).map(of_one))
         }
-    }
+        (30, []) => stored.outcome(timer(hpet::hpet_info(table)).map(of_timer)),
+        (40, [which]) => stored.outcome(generic(register(table, *which)).map(of_generic)),
+        (41, []) => stored.outcome(value(fadt::facs_address(table)).map(of_one)),
+        (42, []) => stored.outcome(value(fadt::dsdt_address(table)).map(of_one)),
+        // The second argument, how many bytes the field has, follows from the first.
+        (43, [offset, _]) => stored.outcome(fadt_field(table, *offset).map(of_one)),
+        (44, [offset, bit]) => {
+            let word = fadt_field(table, *offset);
+            stored.outcome(word.map(|word| [u64::from(fadt::flag(word, low(*bit)))]))
+        }
+        (50, []) => stored.outcome(fixed(madt::fixed_part(table)).map(of_fixed)),
+        (51, [k]) => stored.outcome(entry(madt::entry(table, *k as usize)).map(of_entry)),
+        (52, []) => stored.outcome(model(platform::interrupt_model(table)).map(of_model)),
+        (54, []) => stored.outcome(mailbox(platform::mailbox_address(table)).map(of_one)),
+        _ => return None,
+    };
+    Some(outcome)
 }
 
 // The register blocks have the numbers 0 to 7. 8 is the reset register, 9 sleep control and 10 sleep status.
-fn register(table: &[u8], which: u64) -> Answer {
+fn register(table: &[u8], which: u64) -> Generic {
     match which {
-        8 => of_generic(fadt::reset_register(table)),
-        9 => of_generic(fadt::sleep_control_register(table)),
-        10 => of_generic(fadt::sleep_status_register(table)),
-        _ => of_generic(fadt::nth_register_block(table, low(which))),
-    }
-}
-
-fn of_value(value: fadt::Value) -> Answer {
-    match value {
-        fadt::Value::Refused(n) => refused(n),
-        fadt::Value::Found(v) => of_one(v),
-    }
-}
-
-fn profile_number(profile: fadt::PowerProfile) -> u64 {
-    match profile {
-        fadt::PowerProfile::Unspecified => 0,
-        fadt::PowerProfile::Desktop => 1,
-        fadt::PowerProfile::Mobile => 2,
-        fadt::PowerProfile::Workstation => 3,
-        fadt::PowerProfile::EnterpriseServer => 4,
-        fadt::PowerProfile::SohoServer => 5,
-        fadt::PowerProfile::AppliancePc => 6,
-        fadt::PowerProfile::PerformanceServer => 7,
-        fadt::PowerProfile::Tablet => 8,
-        fadt::PowerProfile::Reserved(n) => n as u64,
-    }
-}
-
-fn of_profile(preferred: fadt::Preferred) -> Answer {
-    match preferred {
-        fadt::Preferred::Refused(n) => refused(n),
-        fadt::Preferred::Profile(p) => of_one(profile_number(p)),
+        8 => fadt::reset_register(table),
+        9 => fadt::sleep_control_register(table),
+        10 => fadt::sleep_status_register(table),
+        _ => fadt::nth_register_block(table, low(which)),
     }
 }
 
 // A plain field by the offset at which the specification has it.
-fn plain(f: fadt::Fixed, offset: u64) -> u64 {
+fn fadt_field(table: &[u8], offset: u64) -> Result<u64, u32> {
     match offset {
-        46 => f.sci_interrupt as u64,
-        48 => f.smi_cmd_port as u64,
-        52 => f.acpi_enable as u64,
-        53 => f.acpi_disable as u64,
-        54 => f.s4bios_req as u64,
-        55 => f.pstate_control as u64,
-        94 => f.gpe1_base as u64,
-        95 => f.c_state_control as u64,
-        96 => f.worst_c2_latency as u64,
-        98 => f.worst_c3_latency as u64,
-        100 => f.flush_size as u64,
-        102 => f.flush_stride as u64,
-        104 => f.duty_offset as u64,
-        105 => f.duty_width as u64,
-        106 => f.day_alarm as u64,
-        107 => f.month_alarm as u64,
-        108 => f.century as u64,
-        109 => f.iapc_boot_arch as u64,
-        _ => f.flags as u64,
+        45 => profile(fadt::power_profile(table)).map(profile_number),
+        128 => value(fadt::reset_value(table)),
+        129 => value(fadt::arm_boot_arch(table)),
+        _ => plain(fadt::fixed_fields(table)).map(|f| field_at(f, offset)),
     }
 }
 
-fn of_plain(found: fadt::Plain, offset: u64) -> Answer {
-    match found {
-        fadt::Plain::Refused(n) => refused(n),
-        fadt::Plain::Fields(f) => of_one(plain(f, offset)),
-    }
-}
-
-fn fadt_field(table: &[u8], offset: u64) -> Answer {
+fn field_at(f: fadt::Fixed, offset: u64) -> u64 {
     match offset {
-        45 => of_profile(fadt::power_profile(table)),
-        128 => of_value(fadt::reset_value(table)),
-        129 => of_value(fadt::arm_boot_arch(table)),
-        _ => of_plain(fadt::fixed_fields(table), offset),
+        46 => u64::from(f.sci_interrupt),
+        48 => u64::from(f.smi_cmd_port),
+        52 => u64::from(f.acpi_enable),
+        53 => u64::from(f.acpi_disable),
+        54 => u64::from(f.s4bios_req),
+        55 => u64::from(f.pstate_control),
+        94 => u64::from(f.gpe1_base),
+        95 => u64::from(f.c_state_control),
+        96 => u64::from(f.worst_c2_latency),
+        98 => u64::from(f.worst_c3_latency),
+        100 => u64::from(f.flush_size),
+        102 => u64::from(f.flush_stride),
+        104 => u64::from(f.duty_offset),
+        105 => u64::from(f.duty_width),
+        106 => u64::from(f.day_alarm),
+        107 => u64::from(f.month_alarm),
+        108 => u64::from(f.century),
+        109 => u64::from(f.iapc_boot_arch),
+        _ => u64::from(f.flags),
     }
 }
 
-// A bit of a field of flags.
-fn of_flag(word: Answer, n: u64) -> Answer {
-    if word.number != 0 {
-        return word;
-    }
-    let values = word.values;
-    of_one(bit(fadt::flag(values[0], low(n))))
-}
-
-// Local address, flags, old controllers present.
-fn of_fixed(fixed: madt::Fixed) -> Answer {
-    match fixed {
-        madt::Fixed::Refused(n) => refused(n),
-        madt::Fixed::Part(m) => Answer {
-            number: 0,
-            count: 3,
-            values: [
-                m.local_apic_address as u64,
-                m.flags as u64,
-                bit(m.supports_8259),
-                0,
-                0,
-                0,
-                0,
-                0,
-                0,
-                0,
-            ],
-        },
-    }
-}
-
-// Kind, offset, length.
-fn of_entry(found: madt::Found) -> Answer {
-    match found {
-        madt::Found::Refused(n) => refused(n),
-        madt::Found::Entry(e) => Answer {
-            number: 0,
-            count: 3,
-            values: [
-                e.number as u64,
-                e.at as u64,
-                e.len as u64,
-                0,
-                0,
-                0,
-                0,
-                0,
-                0,
-                0,
-            ],
-        },
-    }
-}
-
-// Known, local address, old controllers present, and how many records each list has. An unknown model has nothing to say.
-fn of_model(answer: platform::Answer) -> Answer {
-    match answer {
-        platform::Answer::Refused(n) => refused(n),
-        platform::Answer::Model(m) => {
-            if !m.known {
-                return Answer {
-                    number: 0,
-                    count: 8,
-                    values: [0; 10],
-                };
-            }
-            Answer {
-                number: 0,
-                count: 8,
-                values: [
-                    1,
-                    m.local_apic_address,
-                    bit(m.also_has_legacy_pics),
-                    m.processors as u64,
-                    m.io_apics as u64,
-                    m.interrupt_source_overrides as u64,
-                    m.nmi_sources as u64,
-                    m.local_apic_nmi_lines as u64,
-                    0,
-                    0,
-                ],
-            }
-        }
-    }
-}
-
-fn of_mailbox(mailbox: platform::Mailbox) -> Answer {
-    match mailbox {
-        platform::Mailbox::Refused(n) => refused(n),
-        platform::Mailbox::Address(at) => of_one(at),
+fn profile_number(profile: PowerProfile) -> u64 {
+    match profile {
+        PowerProfile::Unspecified => 0,
+        PowerProfile::Desktop => 1,
+        PowerProfile::Mobile => 2,
+        PowerProfile::Workstation => 3,
+        PowerProfile::EnterpriseServer => 4,
+        PowerProfile::SohoServer => 5,
+        PowerProfile::AppliancePc => 6,
+        PowerProfile::PerformanceServer => 7,
+        PowerProfile::Tablet => 8,
+        PowerProfile::Reserved(n) => u64::from(n),
     }
 }
 
 // The file has eight bytes for every argument, of which the question takes the low ones.
-fn low(x: u64) -> u32 {
-    (x % 0x1_0000_0000) as u32
-}
-
 fn low_half(x: u64) -> u16 {
     (x % 0x1_0000) as u16
 }
@@ -334,68 +151,166 @@ fn low_byte(x: u64) -> u8 {
     (x % 0x100) as u8
 }
 
-// How many arguments a question takes. No question takes so many as one that is not known.
-pub fn argument_count(id: u32) -> usize {
-    match id {
-        20 | 30 | 41 | 42 | 50 | 52 | 54 => 0,
-        21 | 40 | 51 => 1,
-        43 | 44 => 2,
-        22 => 4,
-        53 => 5,
-        _ => usize::MAX,
+// The values of the answers.
+
+fn of_one(x: u64) -> [u64; 1] {
+    [x]
+}
+
+fn of_length(n: usize) -> [u64; 1] {
+    [n as u64]
+}
+
+fn of_window(e: McfgEntry) -> [u64; 4] {
+    [
+        e.base_address,
+        u64::from(e.pci_segment_group),
+        u64::from(e.bus_number_start),
+        u64::from(e.bus_number_end),
+    ]
+}
+
+fn of_timer(h: HpetInfo) -> [u64; 9] {
+    let protection = match h.page_protection {
+        PageProtection::None => 0,
+        PageProtection::Protected4K => 1,
+        PageProtection::Protected64K => 2,
+        PageProtection::Other => 3,
+    };
+    [
+        u64::from(h.hardware_rev),
+        u64::from(h.num_comparators),
+        u64::from(h.main_counter_is_64bits),
+        u64::from(h.legacy_irq_capable),
+        u64::from(h.pci_vendor_id),
+        h.base_address,
+        u64::from(h.hpet_number),
+        u64::from(h.clock_tick_unit),
+        protection,
+    ]
+}
+
+fn of_generic(a: GenericAddress) -> [u64; 5] {
+    [
+        u64::from(address::space_number(a.address_space)),
+        u64::from(a.bit_width),
+        u64::from(a.bit_offset),
+        u64::from(address::size_number(a.access_size)),
+        a.address,
+    ]
+}
+
+fn of_fixed(m: Madt) -> [u64; 3] {
+    [
+        u64::from(m.local_apic_address),
+        u64::from(m.flags),
+        u64::from(m.supports_8259),
+    ]
+}
+
+fn of_entry(e: MadtEntry) -> [u64; 3] {
+    [u64::from(e.number), e.at as u64, e.len as u64]
+}
+
+// An unknown model has nothing to say. The last numbers are how many records each list has.
+fn of_model(m: Model) -> [u64; 8] {
+    if !m.known {
+        return [0; 8];
+    }
+    [
+        1,
+        m.local_apic_address,
+        u64::from(m.also_has_legacy_pics),
+        m.processors as u64,
+        m.io_apics as u64,
+        m.interrupt_source_overrides as u64,
+        m.nmi_sources as u64,
+        m.local_apic_nmi_lines as u64,
+    ]
+}
+
+// The answers as results.
+
+fn count(answer: EntryCount) -> Result<usize, u32> {
+    match answer {
+        EntryCount::Count(n) => Ok(n),
+        EntryCount::Refused(n) => Err(n),
     }
 }
 
-// The answer to a question about a table, other than the one for the lists.
-pub fn ask(table: &[u8], id: u32, a: Arguments) -> Answer {
-    match id {
-        20 => of_count(mcfg::entry_count(table)),
-        21 => of_window(mcfg::entry(table, a.first as usize)),
-        22 => of_physical(mcfg::physical_address(
-            table,
-            low_half(a.first),
-            low_byte(a.second),
-            low_byte(a.third),
-            low_byte(a.fourth),
-        )),
-        30 => of_hpet(hpet::hpet_info(table)),
-        40 => register(table, a.first),
-        41 => of_value(fadt::facs_address(table)),
-        42 => of_value(fadt::dsdt_address(table)),
-        43 => fadt_field(table, a.first),
-        44 => of_flag(fadt_field(table, a.first), a.second),
-        50 => of_fixed(madt::fixed_part(table)),
-        51 => of_entry(madt::entry(table, a.first as usize)),
-        52 => of_model(platform::interrupt_model(table)),
-        _ => of_mailbox(platform::mailbox_address(table)),
+fn window(answer: KthEntry) -> Result<McfgEntry, u32> {
+    match answer {
+        KthEntry::Entry(e) => Ok(e),
+        KthEntry::Refused(n) => Err(n),
     }
 }
 
-// Whether the first values are those that stand in the file from an offset on.
-fn are_stored(file: &[u8], from: usize, values: [u64; 10], count: usize) -> bool {
-    let mut at = from;
-    let mut i = 0;
-    while i < 10 {
-        if count <= i {
-            return true;
-        }
-        if record::u64_in(file, at) != values[i] {
-            return false;
-        }
-        at = record::past(at, 8);
-        i += 1;
+fn physical(answer: PhysicalAddress) -> Result<u64, u32> {
+    match answer {
+        PhysicalAddress::Address(at) => Ok(at),
+        PhysicalAddress::Refused(n) => Err(n),
     }
-    true
 }
 
-// Whether the answer is the stored one.
-pub fn is_stored(file: &[u8], q: record::Question, a: Answer) -> bool {
-    if a.number != q.answer {
-        return false;
+fn timer(answer: Hpet) -> Result<HpetInfo, u32> {
+    match answer {
+        Hpet::Info(h) => Ok(h),
+        Hpet::Refused(n) => Err(n),
     }
-    if a.count != q.values.count {
-        return false;
+}
+
+fn generic(answer: Generic) -> Result<GenericAddress, u32> {
+    match answer {
+        Generic::Address(a) => Ok(a),
+        Generic::Refused(n) => Err(n),
     }
-    let values = a.values;
-    are_stored(file, q.values.at, values, a.count)
+}
+
+fn value(answer: Value) -> Result<u64, u32> {
+    match answer {
+        Value::Found(v) => Ok(v),
+        Value::Refused(n) => Err(n),
+    }
+}
+
+fn profile(answer: Preferred) -> Result<PowerProfile, u32> {
+    match answer {
+        Preferred::Profile(p) => Ok(p),
+        Preferred::Refused(n) => Err(n),
+    }
+}
+
+fn plain(answer: Plain) -> Result<fadt::Fixed, u32> {
+    match answer {
+        Plain::Fields(f) => Ok(f),
+        Plain::Refused(n) => Err(n),
+    }
+}
+
+fn fixed(answer: madt::Fixed) -> Result<Madt, u32> {
+    match answer {
+        madt::Fixed::Part(m) => Ok(m),
+        madt::Fixed::Refused(n) => Err(n),
+    }
+}
+
+fn entry(answer: madt::Found) -> Result<MadtEntry, u32> {
+    match answer {
+        madt::Found::Entry(e) => Ok(e),
+        madt::Found::Refused(n) => Err(n),
+    }
+}
+
+fn model(answer: platform::Answer) -> Result<Model, u32> {
+    match answer {
+        platform::Answer::Model(m) => Ok(m),
+        platform::Answer::Refused(n) => Err(n),
+    }
+}
+
+fn mailbox(answer: Mailbox) -> Result<u64, u32> {
+    match answer {
+        Mailbox::Address(at) => Ok(at),
+        Mailbox::Refused(n) => Err(n),
+    }
 }

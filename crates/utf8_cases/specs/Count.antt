@@ -9,7 +9,7 @@ pub record Bounded (t : Tally) : Type 0 where
   pub checksum_fits : t.checksum < 1000000007
 
 -- The checksum tells the order of the answers too: a well-formed string adds 1 to it, any other 2.
-unfoldable pub after_answer : Tally → Bool → Tally
+abbrev pub after_answer : Tally → Bool → Tally
 after_answer t true =
     record { taken = t.taken + 1; well_formed = t.well_formed + 1; checksum = (t.checksum * 31 + 1) % 1000000007 }
 after_answer t false =

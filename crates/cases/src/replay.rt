@@ -1,0 +1,134 @@
+// Asks a program's questions of the images of stored files, and compares each answer with the stored one.
+use crate::case::{Case, Outcome};
+use crate::file::read_full;
+use crate::record::{Image, Question, Reader, Record};
+use crate::tally::Tally;
+use std::alloc::{AllocError, Global};
+use std::io::Read;
+use std::rt::Files;
+use std::{fs, io};
+
+// What a program asks.
+pub trait Questions {
+    // Room for more than a stored file has. A file that fills it up may be cut off, and then its end is missing.
+    const ROOM: usize;
+
+    // What the tally of each question is called, by the question's number in the file.
+    const LABELS: &'static [(u32, &'static str)];
+
+    // Asks the question of a case. None where the program has no such question, or can't ask it about such a case.
+    fn ask(&self, alloc: Global, case: &Case) -> Result<Option<Outcome>, AllocError>;
+}
+
+// Why no tallies of a file are written: no record can be read at a place, or the system fails.
+#[derive(Debug, Drop)]
+enum Stop {
+    Unreadable(usize),
+    Failed(io::Error),
+}
+
+impl From<io::Error> for Stop {
+    fn from(error: io::Error) -> Self {
+        Stop::Failed(error)
+    }
+}
+
+impl From<AllocError> for Stop {
+    fn from(error: AllocError) -> Self {
+        Stop::Failed(io::Error::from(error))
+    }
+}
+
+// The outcome of a question about the image before it. None where there is none, or where the question can't be asked about it.
+fn ask(
+    alloc: Global,
+    questions: &impl Questions,
+    image: Option<Image>,
+    question: Question,
+) -> Result<Option<Outcome>, AllocError> {
+    let Some(image) = image else {
+        return Ok(None);
+    };
+    match Case::new(alloc, image, question)? {
+        Some(case) => questions.ask(alloc, &case),
+        None => Ok(None),
+    }
+}
+
+// Writes a line about an answer that differs.
+fn show(rt: &impl Print, question: Question, outcome: Outcome) -> io::Result<()> {
+    print!(rt;
+        "record at {}, question {}: wanted {}, got {}",
+        question.at, question.id, question.answer, outcome.number
+    )?;
+    if question.answer == outcome.number {
+        print!(rt; " with other values")?;
+    }
+    println!(rt)
+}
+
+// Takes the records of a file in order, up to its end.
+fn replay<R: Print + AllocGlobal>(
+    rt: &R,
+    questions: &impl Questions,
+    file: &[u8],
+) -> Result<Tally, Stop> {
+    let mut tally = Tally::new(rt.alloc());
+    let mut image = None;
+    let mut reader = Reader::new(file);
+    for record in reader.by_ref() {
+        match record {
+            Record::Image(next) => image = Some(next),
+            Record::Question(question) => {
+                let outcome = ask(rt.alloc(), questions, image, question)?.ok_or(Stop::Unreadable(
+                    question.at,
+                ))?;
+                if tally.note(question.id, outcome.same)? {
+                    show(rt, question, outcome)?;
+                }
+            }
+        }
+    }
+    if reader.is_at_end() {
+        Ok(tally)
+    } else {
+        Err(Stop::Unreadable(reader.at()))
+    }
+}
+
+fn replay_opened<R: Print + AllocGlobal, Q: Questions>(
+    rt: &R,
+    questions: &Q,
+    mut file: impl Read + Drop,
+) -> io::Result<()> {
+    let mut bytes = vec![in rt.alloc(); 0u8; Q::ROOM]?;
+    let length = read_full(&mut file, &mut bytes)?;
+    match replay(rt, questions, &bytes[..length]) {
+        Ok(tally) => tally.print(rt, Q::LABELS),
+        Err(Stop::Unreadable(at)) => println!(rt; "no record can be read at {at}"),
+        Err(Stop::Failed(error)) => Err(error),
+    }
+}
+
+// Replays a file, or says that it can't be opened.
+fn replay_named<R: Files + Print + Eprint + AllocGlobal>(
+    rt: &R,
+    questions: &impl Questions,
+    name: &str,
+) -> io::Result<()> {
+    match fs::open(rt, name) {
+        Ok(file) => replay_opened(rt, questions, file),
+        Err(error) => eprintln!(rt; "{name}: {error}"),
+    }
+}
+
+// Replays the file of that name, and then the answers of the comparison with the crate.
+pub fn replay_files<R: Files + Print + Eprint + AllocGlobal>(
+    rt: &R,
+    questions: &impl Questions,
+    name: &str,
+) -> io::Result<()> {
+    replay_named(rt, questions, name)?;
+    println!(rt; "answers of the comparison with the crate:")?;
+    replay_named(rt, questions, "oracle")
+}
