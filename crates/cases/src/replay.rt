@@ -21,7 +21,7 @@ pub trait Questions {
 }
 
 // Why no tallies of a file are written: no record can be read at a place, or the system fails.
-#[derive(Debug, Drop)]
+#[derive(Drop)]
 enum Stop {
     Unreadable(usize),
     Failed(io::Error),
@@ -122,7 +122,8 @@ fn replay_named<R: Files + Print + Eprint + AllocGlobal>(
     }
 }
 
-// Replays the file of that name, and then the answers of the comparison with the crate.
+// Replays the file of that name, and then the answers of the comparison with the crate. What a file gives and what is written no
+// clause can say.
 pub fn replay_files<R: Files + Print + Eprint + AllocGlobal>(
     rt: &R,
     questions: &impl Questions,

@@ -1,5 +1,6 @@
 // How many questions were asked and how many answers differed, of each question and of all.
-ghost use Rattle.std.specs.Prelude.{◌≡◌, ◌+◌, min, if◌then◌else◌};
+ghost use Rattle.std.specs.Prelude.{◌≡◌, ◌<◌, ◌↔◌, false, IfOk, IsTrue, OnOk};
+ghost use Rattle.cases.specs.Tally.{Notes, counted};
 
 use std::alloc::{AllocError, Global};
 use std::collections::BTreeMap;
@@ -17,8 +18,7 @@ pub struct Count {
 impl Count {
     // Both numbers go as far as they can.
     pub fn note(&mut self, same: bool)
-        ensures asked { self.new.asked ≡ min (self.old.asked + 1) u64.MAX }
-        ensures differed { self.new.differed ≡ min (self.old.differed + (if same then 0 else 1)) u64.MAX }
+        ensures { self.new ≡ counted self.old same }
     {
         self.asked = self.asked.saturating_add(1);
         self.differed = self.differed.saturating_add(u64::from(!same));
@@ -46,7 +46,11 @@ impl Tally {
     }
 
     // Counts a question, and says whether its answer is one of the first that differ.
-    pub fn note(&mut self, id: u32, same: bool) -> Result<bool, AllocError> {
+    pub fn note(&mut self, id: u32, same: bool) -> Result<bool, AllocError>
+        ensures all { self.new.all ≡ counted self.old.all same }
+        ensures question { OnOk result (Notes self.old.by_question self.new.by_question id same) }
+        ensures shown { IfOk result (λ shown. IsTrue shown ↔ ((same ≡ false) × (self.old.all.differed < SHOWN))) }
+    {
         let shown = !same && self.all.differed < SHOWN;
         self.all.note(same);
         self.by_question

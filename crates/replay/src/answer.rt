@@ -35,7 +35,8 @@ impl Questions for ImageQuestions {
     }
 }
 
-// Asks the question that has this number and so many arguments. tests/reference/reading.py has the same numbers.
+// Asks the question that has this number and so many arguments. tests/reference/reading.py has the same numbers, which stay numbers
+// here: an enum of the questions would name each call a second time and say nothing more.
 fn ask(case: &Case) -> Option<Outcome> {
     let image = case.image.as_slice();
     let ranges = case.ranges.as_slice();

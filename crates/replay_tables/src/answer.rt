@@ -47,7 +47,7 @@ impl Questions for TableQuestions {
 }
 
 // Asks the question that has this number and so many arguments, other than the one for the lists. tests/reference/reading.py has
-// the same numbers.
+// the same numbers, which stay numbers here: an enum of the questions would name each call a second time and say nothing more.
 fn ask(case: &Case) -> Option<Outcome> {
     let table = case.image.as_slice();
     let stored = &case.stored;
@@ -142,7 +142,7 @@ fn profile_number(profile: PowerProfile) -> u64 {
     }
 }
 
-// The file has eight bytes for every argument, of which the question takes the low ones.
+// The low bytes of an argument, as `low` of `cases` takes four. A trait for the widths would be longer than the functions are.
 fn low_half(x: u64) -> u16 {
     (x % 0x1_0000) as u16
 }

@@ -58,14 +58,11 @@ impl Tables {
 
     // Whether they hold the stored lists, which stand one after the other in the values of the answer.
     fn hold(&self, values: &[u64]) -> bool {
-        let mut rest = values;
-        for table in self.in_order() {
-            match behind_held(table, rest) {
-                Some(behind) => rest = behind,
-                None => return false,
-            }
-        }
-        rest.is_empty()
+        let behind = self
+            .in_order()
+            .iter()
+            .try_fold(values, |rest, table| behind_held(table, rest));
+        behind.is_some_and(|rest| rest.is_empty())
     }
 }
 
@@ -91,11 +88,7 @@ fn holds(table: &[u32], stored: &[u64]) -> bool {
 fn behind_held<'a>(table: &[u32], values: &'a [u64]) -> Option<&'a [u64]> {
     let (count, rest) = values.split_first()?;
     let (list, behind) = rest.split_at_checked(low(*count) as usize)?;
-    if holds(table, list) {
-        Some(behind)
-    } else {
-        None
-    }
+    holds(table, list).then_some(behind)
 }
 
 // Asks for the lists, with lent tables of these lengths. None where one of them is too long. A refusal must leave all tables as they
