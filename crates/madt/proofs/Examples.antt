@@ -1,5 +1,7 @@
 -- Small tables, worked out by the definitions: they test the definitions, and nothing is proved from them.
 use Rattle.std.proofs.Common.{ℕ, ◌≡◌, refl, List, [], ◌∷◌, ◌++◌}
+use Rattle.std.specs.Prelude.{Ok, Err}
+use Rattle.refusal.specs.declared.Refusal.TheVariants.{InconsistentEntry}
 use Rattle.field.specs.Number.{number}
 use Rattle.field.specs.First.{when, less}
 use Rattle.madt.specs.declared.Kind.TheVariants.{
@@ -10,8 +12,7 @@ use Rattle.madt.specs.declared.Kind.TheVariants.{
   Reserved,
 }
 use Rattle.madt.specs.Kinds.{kinds, kind_of}
-use Rattle.madt.specs.Entries.{next_at, walk, entries_from, entries}
-use Rattle.madt.specs.Entries.Item.{Of, Fault}
+use Rattle.madt.specs.Entries.{item_at, next_at, walk, entries_from, entries}
 
 -- The fixed part of the MADT of docs/TABLES.md, section 12, with a stated length below 256, and the table's entries.
 unfoldable pub fixed : ℕ → List ℕ
@@ -28,30 +29,30 @@ sample =
 
 sample_entries :
     entries (fixed 88 ++ sample)
-    ≡ Of (record { kind = LocalApic; number = 0; at = 44; len = 8 })
-    ∷ Of (record { kind = LocalApic; number = 0; at = 52; len = 8 })
-    ∷ Of (record { kind = IoApic; number = 1; at = 60; len = 12 })
-    ∷ Of (record { kind = InterruptSourceOverride; number = 2; at = 72; len = 10 })
-    ∷ Of (record { kind = LocalApicNmi; number = 4; at = 82; len = 6 })
+    ≡ Ok (record { kind = LocalApic; number = 0; at = 44; len = 8 })
+    ∷ Ok (record { kind = LocalApic; number = 0; at = 52; len = 8 })
+    ∷ Ok (record { kind = IoApic; number = 1; at = 60; len = 12 })
+    ∷ Ok (record { kind = InterruptSourceOverride; number = 2; at = 72; len = 10 })
+    ∷ Ok (record { kind = LocalApicNmi; number = 4; at = 82; len = 6 })
     ∷ []
-unfolding entries entries_from walk next_at number when less kind_of kinds fixed sample
+unfolding entries entries_from walk next_at item_at number when less kind_of kinds fixed sample
 sample_entries = refl
 
 -- A reserved kind is passed over by its length; a length of 0, a length past the end, a kind of another interrupt model and a
 -- single byte are faults.
 reserved_then_zero :
-    entries (fixed 49 ++ 0x80 ∷ 3 ∷ 9 ∷ 0x80 ∷ 0 ∷ []) ≡ Of (record { kind = Reserved; number = 0x80; at = 44; len = 3 }) ∷ Fault 47 ∷ []
-unfolding entries entries_from walk next_at number when less kind_of kinds fixed
+    entries (fixed 49 ++ 0x80 ∷ 3 ∷ 9 ∷ 0x80 ∷ 0 ∷ []) ≡ Ok (record { kind = Reserved; number = 0x80; at = 44; len = 3 }) ∷ Err InconsistentEntry ∷ []
+unfolding entries entries_from walk next_at item_at number when less kind_of kinds fixed
 reserved_then_zero = refl
 
-past_the_end : entries (fixed 52 ++ 0 ∷ 9 ∷ 0 ∷ 0 ∷ 1 ∷ 0 ∷ 0 ∷ 0 ∷ []) ≡ Fault 44 ∷ []
-unfolding entries entries_from walk next_at number when less kind_of kinds fixed
+past_the_end : entries (fixed 52 ++ 0 ∷ 9 ∷ 0 ∷ 0 ∷ 1 ∷ 0 ∷ 0 ∷ 0 ∷ []) ≡ Err InconsistentEntry ∷ []
+unfolding entries entries_from walk next_at item_at number when less kind_of kinds fixed
 past_the_end = refl
 
-another_model : entries (fixed 48 ++ 12 ∷ 4 ∷ 0 ∷ 0 ∷ []) ≡ Fault 44 ∷ []
-unfolding entries entries_from walk next_at number when less kind_of kinds fixed
+another_model : entries (fixed 48 ++ 12 ∷ 4 ∷ 0 ∷ 0 ∷ []) ≡ Err InconsistentEntry ∷ []
+unfolding entries entries_from walk next_at item_at number when less kind_of kinds fixed
 another_model = refl
 
-one_byte : entries (fixed 45 ++ 0x80 ∷ []) ≡ Fault 44 ∷ []
-unfolding entries entries_from walk next_at number when less kind_of kinds fixed
+one_byte : entries (fixed 45 ++ 0x80 ∷ []) ≡ Err InconsistentEntry ∷ []
+unfolding entries entries_from walk next_at item_at number when less kind_of kinds fixed
 one_byte = refl

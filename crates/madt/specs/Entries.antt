@@ -1,16 +1,19 @@
 -- The entries of the MADT, one after the other from offset 44 up to the table's end (ACPI 6.5, section 5.2.12). An entry begins
 -- with its kind and its length, one byte each.
-use Rattle.std.specs.Prelude.{ℕ, zero, suc, ◌+◌, ◌≡◌, List, [], ◌∷◌, ◌++◌, Bool, true, false, length, drop}
+use Rattle.std.specs.Prelude.{ℕ, zero, suc, ◌+◌, ◌≡◌, List, [], ◌∷◌, ◌++◌, Bool, true, false, length, drop, slice_get, unwrap_or, Option, Some, None, Result, Ok, Err}
+use Rattle.refusal.specs.declared.Refusal.{Refusal}
+use Rattle.refusal.specs.declared.Refusal.TheVariants.{NotThere, InconsistentEntry}
 use Rattle.field.specs.Number.{number}
 use Rattle.field.specs.Part.{part}
 use Rattle.field.specs.First.{when, less}
+use Rattle.field.specs.Then.{and_then}
 use Rattle.madt.specs.declared.MadtEntry.{MadtEntry}
-use Rattle.madt.specs.declared.Next.{Next}
-use Rattle.madt.specs.declared.Next.TheVariants.{Entry, Fault as NoEntry, End}
-use Rattle.madt.specs.declared.Found.{Found}
-use Rattle.madt.specs.declared.Found.TheVariants.{Entry as FoundEntry, Refused}
 use Rattle.madt.specs.Kinds.{kind_of, least_length}
-use Rattle.madt.specs.Fixed.{not_madt}
+use Rattle.madt.specs.Fixed.{madt_checked}
+
+-- An item of the walk: an entry, or a fault, from which on no entry can be told.
+abbrev pub Item : Type 0
+Item = Result MadtEntry Refusal
 
 -- the entry that begins at `at`, if one does
 abbrev pub entry_at : List ℕ → ℕ → MadtEntry
@@ -18,27 +21,25 @@ entry_at s at = record { kind = kind_of (number s at 1); number = number s at 1;
 
 -- What stands at `at`. There is no entry where a single byte is left, where the length is below the least of its kind, and where
 -- it reaches past the table's end.
-unfoldable pub next_at : List ℕ → ℕ → Next
-next_at s at =
-    when (less (length s) (at + 1)) End
-    (when (less (length s) (at + 2)) NoEntry
-    (when (less (entry_at s at).len (least_length (entry_at s at).kind)) NoEntry
-    (when (less (length s) (at + (entry_at s at).len)) NoEntry
-    (Entry (entry_at s at)))))
+unfoldable pub item_at : List ℕ → ℕ → Item
+item_at s at =
+    when (less (length s) (at + 2)) (Err InconsistentEntry)
+    (when (less (entry_at s at).len (least_length (entry_at s at).kind)) (Err InconsistentEntry)
+    (when (less (length s) (at + (entry_at s at).len)) (Err InconsistentEntry)
+    (Ok (entry_at s at))))
 
--- An item of the walk: an entry, or the offset from which on no entry can be told.
-pub data Item : Type 0 where
-  Of : MadtEntry → Item
-  Fault : ℕ → Item
+-- the same, and nothing where the table has ended
+unfoldable pub next_at : List ℕ → ℕ → Option Item
+next_at s at = when (less (length s) (at + 1)) None (Some (item_at s at))
 
 -- The items from `at` on, in so many steps at most. A fault is the last item.
 unfoldable pub walk : ℕ → List ℕ → ℕ → List Item
 walk zero s at = []
 walk (suc steps) s at =
     elim (next_at s at) [
-      | End ↦ []
-      | NoEntry ↦ Fault at ∷ []
-      | Entry e ↦ Of e ∷ walk steps s (at + e.len)
+      | None ↦ []
+      | Some (Err r) ↦ Err r ∷ []
+      | Some (Ok e) ↦ Ok e ∷ walk steps s (at + e.len)
     ]
 
 -- An entry has two bytes at least, so as many steps as the table has bytes are enough.
@@ -51,28 +52,22 @@ entries s = entries_from s 44
 -- the walk has met a fault
 unfoldable pub faulty : List Item → Bool
 faulty [] = false
-faulty (Of e ∷ items) = faulty items
-faulty (Fault at ∷ items) = true
+faulty (Ok e ∷ items) = faulty items
+faulty (Err r ∷ items) = true
 
--- The item that has k items in front of it: 13 where there is none, 15 where it is a fault.
-unfoldable pub nth : List Item → ℕ → Found
-nth [] k = Refused 13
-nth (Of e ∷ items) zero = FoundEntry e
-nth (Fault at ∷ items) zero = Refused 15
-nth (item ∷ items) (suc k) = nth items k
+-- The item that has k items in front of it.
+unfoldable pub nth : List Item → ℕ → Item
+nth items k = unwrap_or (slice_get items k) (Err NotThere)
 
-unfoldable pub entry_of : List ℕ → ℕ → Found
-entry_of s k = when (not_madt s) (Refused 11) (nth (entries s) k)
+unfoldable pub entry_of : List ℕ → ℕ → Item
+entry_of s k = and_then (madt_checked s) (λ _. nth (entries s) k)
 
--- the bytes of an item; a fault has all that are left
-unfoldable pub bytes_of : List ℕ → Item → List ℕ
-bytes_of s (Of e) = part s e.at e.len
-bytes_of s (Fault at) = drop at s
-
-unfoldable pub joined : List ℕ → List Item → List ℕ
-joined s [] = []
-joined s (item ∷ items) = bytes_of s item ++ joined s items
+-- The bytes of the items from `at` on, one item behind the other; a fault has all that are left.
+unfoldable pub joined : List ℕ → ℕ → List Item → List ℕ
+joined s at [] = []
+joined s at (Ok e ∷ items) = part s e.at e.len ++ joined s (e.at + e.len) items
+joined s at (Err r ∷ items) = drop at s ++ joined s (length s) items
 
 -- The entries, joined, are exactly the bytes behind the fixed part: none is skipped, none is told twice, and they are in order.
 abbrev pub EntriesAreTheTable : Type 0
-EntriesAreTheTable = (s : List ℕ) → joined s (entries s) ≡ drop 44 s
+EntriesAreTheTable = (s : List ℕ) → joined s 44 (entries s) ≡ drop 44 s

@@ -3,3 +3,4 @@ pub mod Kinds
 pub mod Fields
 pub mod Fixed
 pub mod Entries
+pub mod Walk

@@ -2,14 +2,17 @@
 // A table is any slice of bytes; what is no such table, and what is no entry, is refused.
 #![tactic(auto)]
 
-ghost use Rattle.std.specs.Prelude.{◌≡◌};
+ghost use Rattle.std.specs.Prelude.{◌≡◌, ◌<◌, length};
 ghost use Rattle.madt.specs.Kinds.{kind_of, least_length};
-ghost use Rattle.madt.specs.Fixed.{not_madt, fixed_of};
-ghost use Rattle.madt.specs.Entries.{next_at, nth, entries, entry_of};
+ghost use Rattle.madt.specs.Fixed.{madt_checked, fixed_of};
+ghost use Rattle.madt.specs.Entries.{item_at, next_at, entries, entry_of};
+ghost use Rattle.madt.specs.Walk.{left};
+
+use refusal::Refusal;
 
 // The kinds of entries, by the names of the interrupt controller structures. Foreign are those of other
 // interrupt models; Reserved are those that the specification keeps for later or leaves to the maker.
-#[derive(Clone, Copy)]
+#[derive(Clone, Copy, PartialEq, Eq)]
 pub enum Kind {
     LocalApic,
     IoApic,
@@ -24,48 +27,45 @@ pub enum Kind {
     Reserved,
 }
 
-pub fn kind_of(number: u8) -> Kind
-    ensures { result ≡ kind_of number }
-{
-    match number {
-        0 => Kind::LocalApic,
-        1 => Kind::IoApic,
-        2 => Kind::InterruptSourceOverride,
-        3 => Kind::NmiSource,
-        4 => Kind::LocalApicNmi,
-        5 => Kind::LocalApicAddressOverride,
-        9 => Kind::LocalX2Apic,
-        10 => Kind::X2ApicNmi,
-        16 => Kind::MultiprocessorWakeup,
-        _ => {
-            // 6 to 8 are left below 9, and 11 to 15 below 16.
-            if number < 9 {
-                return Kind::Foreign;
-            }
-            if number < 16 {
-                return Kind::Foreign;
-            }
-            Kind::Reserved
+impl From<u8> for Kind {
+    ghost from_gives = { λ number kind. kind ≡ kind_of number };
+
+    #[tactic(auto, unfolding(crate::specs::Kinds::kind_of, crate::specs::Kinds::kinds))]
+    fn from(number: u8) -> Kind {
+        match number {
+            0 => Kind::LocalApic,
+            1 => Kind::IoApic,
+            2 => Kind::InterruptSourceOverride,
+            3 => Kind::NmiSource,
+            4 => Kind::LocalApicNmi,
+            5 => Kind::LocalApicAddressOverride,
+            9 => Kind::LocalX2Apic,
+            10 => Kind::X2ApicNmi,
+            16 => Kind::MultiprocessorWakeup,
+            6..=8 | 11..=15 => Kind::Foreign,
+            _ => Kind::Reserved,
         }
     }
 }
 
-// An entry of another interrupt model is refused: no length byte can say 256.
-pub fn least_length(kind: Kind) -> usize
-    ensures { result ≡ least_length kind }
-{
-    match kind {
-        Kind::LocalApic => 8,
-        Kind::IoApic => 12,
-        Kind::InterruptSourceOverride => 10,
-        Kind::NmiSource => 8,
-        Kind::LocalApicNmi => 6,
-        Kind::LocalApicAddressOverride => 12,
-        Kind::LocalX2Apic => 16,
-        Kind::X2ApicNmi => 12,
-        Kind::MultiprocessorWakeup => 16,
-        Kind::Foreign => 256,
-        Kind::Reserved => 2,
+impl Kind {
+    // An entry of another interrupt model is refused: no length byte can say 256.
+    pub fn least_length(self) -> usize
+        ensures { result ≡ least_length self }
+    {
+        match self {
+            Kind::LocalApic => 8,
+            Kind::IoApic => 12,
+            Kind::InterruptSourceOverride => 10,
+            Kind::NmiSource => 8,
+            Kind::LocalApicNmi => 6,
+            Kind::LocalApicAddressOverride => 12,
+            Kind::LocalX2Apic => 16,
+            Kind::X2ApicNmi => 12,
+            Kind::MultiprocessorWakeup => 16,
+            Kind::Foreign => 256,
+            Kind::Reserved => 2,
+        }
     }
 }
 
@@ -76,29 +76,23 @@ pub struct Madt {
     pub supports_8259: bool,
 }
 
-#[derive(Clone, Copy)]
-pub enum Fixed {
-    Part(Madt),
-    Refused(u32),
-}
-
-fn not_madt(table: &[u8]) -> bool
-    ensures { result ≡ not_madt table.now }
+#[tactic(auto, unfolding(crate::specs::Fixed::madt_checked, crate::specs::Fixed::not_madt, field::specs::First::when, field::specs::First::less, field::specs::First::differ))]
+fn check_madt(table: &[u8]) -> Result<(), Refusal>
+    ensures { result ≡ madt_checked table.now }
 {
-    if table.len() < 44 {
-        return true;
+    if table.len() < 44 || field::u32_at(table, 4) as usize != table.len() {
+        return Err(Refusal::TooShort);
     }
-    field::u32_at(table, 4) as usize != table.len()
+    Ok(())
 }
 
-pub fn fixed_part(table: &[u8]) -> Fixed
+#[tactic(auto, using(crate::proofs::FixedLaws::has_fixed_part), unfolding(crate::specs::Fixed::fixed_of, crate::specs::Fixed::madt_of))]
+pub fn fixed_part(table: &[u8]) -> Result<Madt, Refusal>
     ensures { result ≡ fixed_of table.now }
 {
-    if not_madt(table) {
-        return Fixed::Refused(11);
-    }
+    check_madt(table)?;
     let flags = field::u32_at(table, 40);
-    Fixed::Part(Madt {
+    Ok(Madt {
         local_apic_address: field::u32_at(table, 36),
         flags,
         supports_8259: flags % 2 == 1,
@@ -114,34 +108,22 @@ pub struct MadtEntry {
     pub len: usize,
 }
 
-// What stands at a place of the table.
-#[derive(Clone, Copy)]
-pub enum Next {
-    Entry(MadtEntry),
-    Fault,
-    End,
-}
-
-pub fn next_entry(table: &[u8], at: usize) -> Next
-    ensures { result ≡ next_at table.now at }
+#[tactic(auto, unfolding(crate::specs::Entries::item_at, field::specs::First::when, field::specs::First::less))]
+fn item_at(table: &[u8], at: usize) -> Result<MadtEntry, Refusal>
+    requires { at < length table.now }
+    ensures { result ≡ item_at table.now at }
 {
-    if table.len() <= at {
-        return Next::End;
-    }
     let left = table.len() - at;
     if left < 2 {
-        return Next::Fault;
+        return Err(Refusal::InconsistentEntry);
     }
     let number = field::u8_at(table, at);
-    let kind = kind_of(number);
+    let kind = Kind::from(number);
     let len = field::u8_at(table, at + 1) as usize;
-    if len < least_length(kind) {
-        return Next::Fault;
+    if len < kind.least_length() || left < len {
+        return Err(Refusal::InconsistentEntry);
     }
-    if left < len {
-        return Next::Fault;
-    }
-    Next::Entry(MadtEntry {
+    Ok(MadtEntry {
         kind,
         number,
         at,
@@ -149,43 +131,57 @@ pub fn next_entry(table: &[u8], at: usize) -> Next
     })
 }
 
+// What stands at a place of the table: nothing where the table has ended, and a refusal where no entry can be told.
+#[tactic(auto, unfolding(crate::specs::Entries::next_at, field::specs::First::when, field::specs::First::less))]
+pub fn next_entry(table: &[u8], at: usize) -> Option<Result<MadtEntry, Refusal>>
+    ensures { result ≡ next_at table.now at }
+{
+    if table.len() <= at {
+        return None;
+    }
+    Some(item_at(table, at))
+}
+
+// The walk through the entries of a table, from a place on. A refusal is its last item.
 #[derive(Clone, Copy)]
-pub enum Found {
-    Entry(MadtEntry),
-    Refused(u32),
+pub struct Walk<'a> {
+    table: &'a [u8],
+    at: usize,
+}
+
+impl Iterator for Walk<'_> {
+    ghost use Rattle.std.specs.Iterator.{YieldsFirst, item_count};
+    ghost use Rattle.madt.specs.Walk.{left};
+
+    type Item = Result<MadtEntry, Refusal>;
+
+    ghost next_gives = { YieldsFirst left };
+
+    ghost remaining = { item_count left };
+
+    fn next(&mut self) -> Option<Result<MadtEntry, Refusal>> {
+        let item = next_entry(self.table, self.at)?;
+        self.at = match item {
+            Ok(e) => self.at + e.len,
+            Err(_) => self.table.len(),
+        };
+        Some(item)
+    }
+}
+
+// The entries of a table that has the fixed part.
+#[tactic(auto, unfolding(crate::specs::Entries::entries))]
+pub fn entries(table: &[u8]) -> Walk<'_>
+    ensures { left result ≡ entries table.now }
+{
+    Walk { table, at: 44 }
 }
 
 // The entry that has k entries in front of it.
-pub fn entry(table: &[u8], k: usize) -> Found
+#[tactic(auto, unfolding(crate::specs::Entries::entry_of, crate::specs::Entries::nth))]
+pub fn entry(table: &[u8], k: usize) -> Result<MadtEntry, Refusal>
     ensures { result ≡ entry_of table.now k }
 {
-    if not_madt(table) {
-        return Found::Refused(11);
-    }
-    kth(table, k)
-}
-
-fn kth(table: &[u8], k: usize) -> Found
-    ensures { result ≡ nth (entries table.now) k }
-{
-    let mut at = 44;
-    let mut left = k;
-    loop {
-        match next_entry(table, at) {
-            Next::Entry(e) => {
-                if left == 0 {
-                    return Found::Entry(e);
-                }
-                left -= 1;
-                at += e.len;
-            }
-            Next::Fault => {
-                if left == 0 {
-                    return Found::Refused(15);
-                }
-                return Found::Refused(13);
-            }
-            Next::End => return Found::Refused(13),
-        }
-    }
+    check_madt(table)?;
+    entries(table).nth(k).unwrap_or(Err(Refusal::NotThere))
 }

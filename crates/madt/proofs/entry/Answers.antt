@@ -1,13 +1,20 @@
--- `entry` meets its contract: a slice that is no MADT is refused, of any other the k-th entry is answered.
-use Rattle.std.proofs.Common.{sym, ◌∙◌}
-use Rattle.field.proofs.FirstLaws.{when_hit, when_pass}
-use Rattle.madt.specs.Entries.{entry_of}
+-- `entry` meets its contract: of a MADT the item that the walk comes to after k others is answered.
+use Rattle.std.proofs.Common.{◌≡◌, ap, sym, ◌∙◌}
+use Rattle.std.specs.Prelude.{Option, Err, slice_get, unwrap_or}
+use Rattle.std.proofs.lemmas.Iterator.Adapters.{option_map_id}
+use Rattle.std.proofs.lemmas.Iterator.Consumers.{nth_from_yields_List, YieldsList-from_first}
+use Rattle.refusal.specs.declared.Refusal.TheVariants.{NotThere}
+use Rattle.field.proofs.ThenLaws.{then_ok}
+use Rattle.madt.specs.Entries.{Item, entries, nth, entry_of}
+use Rattle.madt.specs.Walk.{left}
 use Rattle.madt.proofs.entry.Goals as goal
 
-pub returns-then-not_madt : goal.returns-then-not_madt
-unfolding entry_of
-returns-then-not_madt c = sym (when_hit _ _ _ (sym c.not_madt.ensures ∙ c.if-not_madt.true))
-
 pub returns : goal.returns
-unfolding entry_of
-returns c = c.kth.ensures ∙ sym (when_pass _ _ _ (sym c.not_madt.ensures ∙ c.if-not_madt.false))
+unfolding entry_of nth
+returns c =
+    let items = YieldsList-from_first (λ x. x) left _ c.entries.ensures in
+    let found : c.nth.result ≡ slice_get (entries c.args.table.now) c.args.k =
+    sym (option_map_id _) ∙ nth_from_yields_List _ c.nth.new.self _ c.nth.ensures.ran items in
+    c.unwrap_or.ensures
+    ∙ (ap (λ (o : Option Item). unwrap_or o (Err NotThere)) found
+    ∙ sym (then_ok _ (sym c.check_madt.ensures ∙ c.in_ok-check_madt.was)))
