@@ -1,6 +1,6 @@
 -- Laws about the walk through the entries.
-use Rattle.std.proofs.Common.{ℕ, zero, suc, ◌+◌, ◌≤◌, ◌≡◌, refl, ap, sym, subst, ◌∙◌, List, [], ◌∷◌, append-nil, Bool, true, false, arith, length, drop, drop_of_length-le, take-append-drop, drop-drop}
-use Rattle.std.specs.Prelude.{Option, Some, None, Ok, Err}
+use Rattle.std.proofs.Common.{ℕ, zero, suc, ◌+◌, ◌-◌, ◌≤◌, ◌<◌, ◌≡◌, refl, ap, sym, subst, ◌∙◌, List, [], ◌∷◌, append-nil, Bool, true, false, true≢false, arith, length, drop, drop_of_length-le, take-append-drop, drop-drop}
+use Rattle.std.specs.Prelude.{Option, Some, None, Ok, Err, IsOk}
 use Rattle.refusal.specs.declared.Refusal.{Refusal}
 use Rattle.refusal.specs.declared.Refusal.TheVariants.{InconsistentEntry}
 use Rattle.field.specs.Part.{part}
@@ -9,7 +9,7 @@ use Rattle.field.specs.First.{when, less}
 use Rattle.field.proofs.FirstLaws.{less_yes, less_true, less_false, when_hit, when_pass}
 use Rattle.madt.specs.declared.MadtEntry.{MadtEntry}
 use Rattle.madt.specs.Kinds.{kind_of, least_length}
-use Rattle.madt.specs.Entries.{Item, entry_at, item_at, next_at, walk, entries_from, entries, joined, EntriesAreTheTable}
+use Rattle.madt.specs.Entries.{Item, entry_at, item_at, next_at, walk, entries_from, entries, faulty, joined, EntriesAreTheTable}
 use Rattle.madt.proofs.KindLaws.{at_least_two}
 
 -- A chain of tests that ends in y has passed a test that would have ended in something else.
@@ -139,17 +139,24 @@ unfolding entries_from
 from_entry s at e h =
     enough_steps (length s) (suc (length s)) s at (omega arith) (omega arith) ∙ walk_entry (length s) s at e h
 
--- There are no more entries than bytes.
-walk_short : (n : ℕ) (s : List ℕ) (at : ℕ) → length (walk n s at) ≤ n
+-- There are no more entries than bytes behind the fixed part.
+stands_inside : (s : List ℕ) (at : ℕ) (item : Item) → next_at s at ≡ Some item → at < length s
+unfolding next_at
+stands_inside s at item h =
+    let p = past _ _ _ _ (λ q. cc) h in
+    let f = less_false _ _ p.fails in
+    omega arith
+
+walk_short : (n : ℕ) (s : List ℕ) (at : ℕ) → length (walk n s at) ≤ length s - at
 walk_short zero s at = rw (walk_none s at) (omega arith)
 walk_short (suc n) s at = go (walk_short n s) (next_at s at) refl
   where
-    go : ((at' : ℕ) → length (walk n s at') ≤ n) → (x : Option Item) → next_at s at ≡ x → length (walk (suc n) s at) ≤ suc n
+    go : ((at' : ℕ) → length (walk n s at') ≤ length s - at') → (x : Option Item) → next_at s at ≡ x → length (walk (suc n) s at) ≤ length s - at
     go again None h = rw (walk_end n s at h) (omega arith)
-    go again (Some (Err r)) h = rw (walk_fault n s at r h) (omega arith)
-    go again (Some (Ok e)) h = rw (walk_entry n s at e h) (omega (arith, again (at + e.len)))
+    go again (Some (Err r)) h = rw (walk_fault n s at r h) (omega (arith, stands_inside s at (Err r) h))
+    go again (Some (Ok e)) h = rw (walk_entry n s at e h) (omega (arith, again (at + e.len), stands s at e h))
 
-pub entries_short : (s : List ℕ) → length (entries s) ≤ length s
+pub entries_short : (s : List ℕ) → length (entries s) ≤ length s - 44
 unfolding entries entries_from
 entries_short s = walk_short (length s) s 44
 
@@ -175,15 +182,30 @@ unfolding entries entries_from
 entries_stand s = walk_stands (length s) s 44
 
 -- What is known of the first item, and of those behind it.
-pub standing_rest : {s : List ℕ} {item : Item} {items : List Item} → Standing s (item ∷ items) → Standing s items
-standing_rest (fault rest) = rest
-standing_rest (entry here rest) = rest
+module _ {s : List ℕ} {items rest : List Item} where
+  pub standing_rest : {item : Item} → Standing s items → items ≡ item ∷ rest → Standing s rest
+  standing_rest {item} stand q = go (rw q at stand)
+    where
+      go : {item : Item} {rest : List Item} → Standing s (item ∷ rest) → Standing s rest
+      go (fault others) = others
+      go (entry here others) = others
 
-pub standing_entry : {s : List ℕ} {e : MadtEntry} {items : List Item} → Standing s (Ok e ∷ items) → Stands s e.at e
-standing_entry (entry here rest) = here
+  pub standing_fault : {r : Refusal} → Standing s items → items ≡ Err r ∷ rest → r ≡ InconsistentEntry
+  standing_fault {r} stand q = go (rw q at stand)
+    where
+      go : {r : Refusal} {rest : List Item} → Standing s (Err r ∷ rest) → r ≡ InconsistentEntry
+      go (fault others) = refl
 
-pub standing_fault : {s : List ℕ} {r : Refusal} {items : List Item} → Standing s (Err r ∷ items) → r ≡ InconsistentEntry
-standing_fault (fault rest) = refl
+-- Where no fault is to come, the first item is an entry, and none is to come behind it.
+pub sound_entry : {items rest : List Item} {item : Item} → faulty items ≡ false → items ≡ item ∷ rest → IsOk item
+unfolding faulty
+sound_entry {rest = rest} {item = Ok e} sound q = refl
+sound_entry {rest = rest} {item = Err r} sound q = absurd (true≢false (rw q at sound))
+
+pub sound_rest : {items rest : List Item} {item : Item} → faulty items ≡ false → items ≡ item ∷ rest → faulty rest ≡ false
+unfolding faulty
+sound_rest {rest = rest} {item = Ok e} sound q = rw q at sound
+sound_rest {rest = rest} {item = Err r} sound q = absurd (true≢false (rw q at sound))
 
 -- The items from a place on, joined, are the bytes from there on: an entry's bytes and those behind it are what is left.
 joined_walk : (n : ℕ) (s : List ℕ) (at : ℕ) → length s ≤ at + n → joined s at (walk n s at) ≡ drop at s

@@ -1,134 +1,119 @@
 -- Laws about going through all entries once.
-use Rattle.std.proofs.Common.{ℕ, zero, suc, ◌+◌, ◌≤◌, ◌<◌, ◌≡◌, refl, ap, sym, ◌∙◌, List, [], ◌∷◌, Bool, true, false, ◌||◌, arith, length, get_or, set, length-set, get_or-set_same, get_or-set_other}
-use mathlib.Core.Bool.{or-false}
-use Rattle.field.specs.First.{differ}
-use Rattle.field.proofs.FirstLaws.{differ_true, differ_false, differ_no, when_hit, when_pass}
-use Rattle.madt.specs.Entries.{next_at, entries_from, entries, faulty}
+use Rattle.std.proofs.Common.{ℕ, ◌+◌, ◌-◌, ◌≤◌, ◌≡◌, refl, ap, ap₂, sym, ◌∙◌, List, [], ◌∷◌, Bool, true, false, ◌||◌, arith, length, zero-add}
+use Rattle.std.specs.Prelude.{Ok, Err, if◌then◌else◌}
+use mathlib.Core.Bool.{or-false, or_assoc}
+use Rattle.refusal.specs.declared.Refusal.{Refusal}
+use Rattle.field.specs.First.{when}
+use Rattle.field.proofs.FirstLaws.{when_hit, when_pass}
+use Rattle.madt.specs.Entries.{Item, entries, faulty}
+use Rattle.madt.specs.declared.Madt.{Madt}
 use Rattle.madt.specs.declared.MadtEntry.{MadtEntry}
-use Rattle.madt.specs.declared.Next.TheVariants.{Entry, Fault as NoEntry, End}
-use Rattle.madt.proofs.EntryLaws.{stands, entries_short, faulty_entry, faulty_end, faulty_fault}
-use Rattle.platform.specs.Lists.{list_of, those, of_model}
+use Rattle.madt.proofs.EntryLaws.{Standing, entries_stand, entries_short, standing_rest, standing_fault}
+use Rattle.platform.specs.declared.Model.{Model}
+use Rattle.platform.specs.Lists.{ListName, those}
+use Rattle.platform.specs.Lists.ListName.{processors, io_apics, interrupt_source_overrides, nmi_sources, local_apic_nmi_lines}
 use Rattle.platform.specs.Wrong.{wrong_at}
-use Rattle.platform.specs.Model.{some, address_after, last_address, belongs, wrong}
-use Rattle.platform.proofs.KindLaws.{list_small}
-use Rattle.platform.proofs.ListLaws.{
-  those_short,
-  those_entry,
-  some_more,
-  address_entry,
-  those_end,
-  some_end,
-  address_end,
-}
+use Rattle.platform.specs.Model.{some, belongs, wrong, last_address, model_with}
+use Rattle.platform.specs.Inner.{count, with_entry, seen_of}
+use Rattle.platform.proofs.ListLaws.{those_short}
 
--- What is told so far, with what the rest tells, is what the whole table tells.
-pub record Surveying (s : List ℕ) (first : ℕ) (counts : List ℕ) (known bad : Bool) (address at : ℕ) : Type 0 where
-  pub places : length counts ≡ 6
-  pub counted : (l : ℕ) → l < 6 → get_or counts l 0 + length (those l (entries_from s at)) ≡ length (those l (entries s))
-  pub belonging : (known || some belongs (entries_from s at)) ≡ some belongs (entries s)
-  pub mistaken : (bad || some (wrong s) (entries_from s at)) ≡ some (wrong s) (entries s)
-  pub addressed : last_address s address (entries_from s at) ≡ last_address s first (entries s)
-  pub faults : faulty (entries_from s at) ≡ faulty (entries s)
-
-zeros : (l : ℕ) → l < 6 → ◌≡◌ {A = ℕ} (get_or (0 ∷ 0 ∷ 0 ∷ 0 ∷ 0 ∷ 0 ∷ []) l 0) 0
-zeros zero h = refl
-zeros (suc zero) h = refl
-zeros (suc (suc zero)) h = refl
-zeros (suc (suc (suc zero))) h = refl
-zeros (suc (suc (suc (suc zero)))) h = refl
-zeros (suc (suc (suc (suc (suc zero))))) h = refl
-zeros (suc (suc (suc (suc (suc (suc l)))))) h = absurd (omega arith)
+-- What is told so far, with what the items that are left tell, is what the whole table tells.
+pub record Surveying (s : List ℕ) (m : Madt) (bad : Bool) (model : Model) (items : List Item) : Type 0 where
+  pub standing : Standing s items
+  pub counted : (l : ListName) → count model l + length (those l items) ≡ length (those l (entries s))
+  pub belonging : (model.known || some belongs items) ≡ some belongs (entries s)
+  pub mistaken : (bad || some (wrong s) items) ≡ some (wrong s) (entries s)
+  pub addressed : last_address s model.local_apic_address items ≡ last_address s m.local_apic_address (entries s)
+  pub legacy : model.also_has_legacy_pics ≡ m.supports_8259
+  pub faults : faulty items ≡ faulty (entries s)
 
 -- At the start nothing is told and everything is left.
-pub survey_start : (s : List ℕ) (first : ℕ) → Surveying s first (0 ∷ 0 ∷ 0 ∷ 0 ∷ 0 ∷ 0 ∷ []) false false first 44
-unfolding entries
-survey_start s first =
-    record {
-      places = refl;
-      counted = λ l h. omega (arith, zeros l h);
+pub survey_start :
+    (s : List ℕ) (m : Madt) {items : List Item} → items ≡ entries s →
+    Surveying s m false (record { known = false; local_apic_address = m.local_apic_address; also_has_legacy_pics = m.supports_8259; processors = 0; io_apics = 0; interrupt_source_overrides = 0; nmi_sources = 0; local_apic_nmi_lines = 0 }) items
+survey_start s m e =
+    rw e (record {
+      standing = entries_stand s;
+      counted = elim [
+        | processors ↦ zero-add _
+        | io_apics ↦ zero-add _
+        | interrupt_source_overrides ↦ zero-add _
+        | nmi_sources ↦ zero-add _
+        | local_apic_nmi_lines ↦ zero-add _
+      ];
       belonging = refl;
       mistaken = refl;
       addressed = refl;
+      legacy = refl;
       faults = refl;
-    }
+    })
 
-pub record Surveyed (s : List ℕ) (first : ℕ) (counts : List ℕ) (known bad : Bool) (address : ℕ) : Type 0 where
-  pub counted : (l : ℕ) → l < 6 → get_or counts l 0 ≡ length (those l (entries s))
-  pub belonging : known ≡ some belongs (entries s)
-  pub mistaken : bad ≡ some (wrong s) (entries s)
-  pub addressed : address ≡ last_address s first (entries s)
-  pub faultless : faulty (entries s) ≡ false
+-- One more record, where the entry goes to the list.
+counted_entry : (k n : ℕ) (t : Bool) (e : MadtEntry) (those : List MadtEntry) → k + length (when t (e ∷ those) those) ≡ n → k + (if t then 1 else 0) + length those ≡ n
+unfolding when
+counted_entry k n true e those h = omega arith
+counted_entry k n false e those h = omega arith
 
--- One more at place k: the number at k grows by one, and no other does.
-more_same :
-    (counts : List ℕ) (k l : ℕ) → k ≡ l → l < length counts →
-    get_or (set counts k (get_or counts k 0 + 1)) l 0 ≡ get_or counts l 0 + 1
-more_same counts k l e h = rw e (get_or-set_same counts l (get_or counts l 0 + 1) 0 h)
+-- An entry is taken in, and the items behind it are left.
+pub survey_entry :
+    {s : List ℕ} {m : Madt} {bad bad' : Bool} {model model' : Model} {items rest : List Item} {item : Item} {e : MadtEntry} →
+    Surveying s m bad model items → items ≡ item ∷ rest → item ≡ Ok e → bad' ≡ wrong_at s e.at e.kind → model' ≡ with_entry s model e →
+    Surveying s m (bad || bad') model' rest
+unfolding those some last_address faulty
+survey_entry {s} {m} {bad} {model = model} {rest = rest} {e = e} was₀ q is qb qm =
+    let was : Surveying s m bad model (Ok e ∷ rest) = rw (q, is) at was₀ in
+    rw (qb, qm) (record {
+      standing = standing_rest was.standing refl;
+      counted = elim [
+        | processors ↦ counted_entry _ _ _ e _ (was.counted processors)
+        | io_apics ↦ counted_entry _ _ _ e _ (was.counted io_apics)
+        | interrupt_source_overrides ↦ counted_entry _ _ _ e _ (was.counted interrupt_source_overrides)
+        | nmi_sources ↦ counted_entry _ _ _ e _ (was.counted nmi_sources)
+        | local_apic_nmi_lines ↦ counted_entry _ _ _ e _ (was.counted local_apic_nmi_lines)
+      ];
+      belonging = or_assoc model.known _ _ ∙ was.belonging;
+      mistaken = or_assoc bad _ _ ∙ was.mistaken;
+      addressed = was.addressed;
+      legacy = was.legacy;
+      faults = was.faults;
+    })
 
--- So the counts go on with what the entry's list has more.
-count_entry :
-    (s counts : List ℕ) (at : ℕ) (e : MadtEntry) → next_at s at ≡ Entry e → length counts ≡ 6 →
-    (k : ℕ) → k ≡ list_of e.kind → (l : ℕ) → l < 6 →
-    get_or (set counts k (get_or counts k 0 + 1)) l 0 + length (those l (entries_from s (at + e.len)))
-    ≡ get_or counts l 0 + length (those l (entries_from s at))
-count_entry s counts at e h six k q l small = go (differ (list_of e.kind) l) refl
-  where
-    go :
-        (t : Bool) → differ (list_of e.kind) l ≡ t →
-        get_or (set counts k (get_or counts k 0 + 1)) l 0 + length (those l (entries_from s (at + e.len)))
-        ≡ get_or counts l 0 + length (those l (entries_from s at))
-    go true d =
-        let other = get_or-set_other counts k l (get_or counts k 0 + 1) 0 (λ p. differ_true _ _ d (sym (p ∙ q))) in
-        let rest = ap length (those_entry s at e h l ∙ when_hit _ _ _ d) in
-        omega arith
-    go false d =
-        let same = more_same counts k l (q ∙ differ_false _ _ d) (omega arith) in
-        let rest = ap length (those_entry s at e h l ∙ when_pass _ _ _ d) in
-        omega arith
+module _ {s : List ℕ} {m : Madt} {bad : Bool} {model : Model} where
+  -- No count is above the number of entries.
+  pub count_small : {items : List Item} → Surveying s m bad model items → (l : ListName) → count model l ≤ length s - 44
+  count_small was l = omega (arith, was.counted l, those_short l (entries s), entries_short s)
 
-module _
-    {s : List ℕ}
-    {first : ℕ}
-    {counts : List ℕ}
-    {known bad : Bool}
-    {address at : ℕ}
-    (was : Surveying s first counts known bad address at)
-  where
-    -- An entry is taken in.
-    pub survey_entry :
-        {e : MadtEntry} {l : ℕ} {b w : Bool} {a : ℕ} → next_at s at ≡ Entry e → l ≡ list_of e.kind → b ≡ of_model e.kind →
-        w ≡ wrong_at s at e.kind → a ≡ address_after s address at e.kind →
-        Surveying s first (set counts l (get_or counts l 0 + 1)) (known || b) (bad || w) a (at + e.len)
-    survey_entry {e} {l} {b} {w} {a} h ql qb qw qa =
-        let place = (stands s at e h).place in
-        let after : a ≡ address_after s address e.at e.kind = cc in
-        record {
-          places = length-set counts l (get_or counts l 0 + 1) ∙ was.places;
-          counted = λ i small. count_entry s counts at e h was.places l ql i small ∙ was.counted i small;
-          belonging = some_more s at e h belongs known b _ qb was.belonging;
-          mistaken = some_more s at e h (wrong s) bad w _ (cc) was.mistaken;
-          addressed = rw after (sym (address_entry s at e h address) ∙ was.addressed);
-          faults = sym (faulty_entry s at e h) ∙ was.faults;
-        }
+  -- A fault refuses, and at the end all is told.
+  pub survey_fault :
+      {items rest : List Item} {item : Item} {r : Refusal} → Surveying s m bad model items → items ≡ item ∷ rest → item ≡ Err r →
+      Err r ≡ seen_of s m
+  unfolding faulty seen_of
+  survey_fault {rest = rest} {r = r} was₀ q is =
+      let was : Surveying s m bad model (Err r ∷ rest) = rw (q, is) at was₀ in
+      ap Err (standing_fault was.standing refl) ∙ sym (when_hit _ _ _ (sym was.faults))
 
-    -- A count stays below the number of entries, and so below the table's length, while an entry of its list is to come.
-    pub count_small : {e : MadtEntry} {l : ℕ} → next_at s at ≡ Entry e → l ≡ list_of e.kind → get_or counts l 0 + 1 ≤ length s
-    count_small {e} {l} h q =
-        let in_list = ap length (those_entry s at e h l ∙ when_pass _ _ _ (differ_no _ _ (sym q))) in
-        let all = was.counted l (rw q (list_small e.kind)) in
-        omega (arith, those_short l (entries s), entries_short s)
-
-    -- A fault is told.
-    pub survey_fault : next_at s at ≡ NoEntry → faulty (entries s) ≡ true
-    survey_fault h = sym was.faults ∙ faulty_fault s at h
-
-    -- At the end all is told.
-    pub survey_end : next_at s at ≡ End → Surveyed s first counts known bad address
-    survey_end h =
-        record {
-          counted = λ l small. omega (arith, was.counted l small, ap length (those_end s at h l));
-          belonging = sym (or-false known) ∙ (rw (← some_end s at h belongs) was.belonging);
-          mistaken = sym (or-false bad) ∙ (rw (← some_end s at h (wrong s)) was.mistaken);
-          addressed = sym (address_end s at h address) ∙ was.addressed;
-          faultless = sym was.faults ∙ faulty_end s at h;
-        }
+  pub survey_end : {items : List Item} → Surveying s m bad model items → items ≡ [] → Ok (record { wrong = bad; model = model }) ≡ seen_of s m
+  unfolding those some last_address faulty model_with seen_of
+  survey_end was₀ q =
+      let was : Surveying s m bad model [] = rw q at was₀ in
+      let told : (l : ListName) → count model l ≡ length (those l (entries s)) = λ l. omega (arith, was.counted l) in
+      let n₀ = told processors in
+      let n₁ = told io_apics in
+      let n₂ = told interrupt_source_overrides in
+      let n₃ = told nmi_sources in
+      let n₄ = told local_apic_nmi_lines in
+      let known = sym (or-false model.known) ∙ was.belonging in
+      let mistaken = sym (or-false bad) ∙ was.mistaken in
+      let made : Model = record {
+        known = model.known;
+        local_apic_address = model.local_apic_address;
+        also_has_legacy_pics = model.also_has_legacy_pics;
+        processors = model.processors;
+        io_apics = model.io_apics;
+        interrupt_source_overrides = model.interrupt_source_overrides;
+        nmi_sources = model.nmi_sources;
+        local_apic_nmi_lines = model.local_apic_nmi_lines;
+      }
+      in
+      let same : made ≡ model_with s m = cc in
+      ap₂ (λ bad model. Ok (record { wrong = bad; model = model })) mistaken same ∙ sym (when_pass _ _ _ (sym was.faults))

@@ -1,8 +1,7 @@
 -- Which entries of the MADT belong to the model, and to which of its lists.
-use Rattle.std.specs.Prelude.{ℕ, List, [], ◌∷◌, Bool, true, false}
-use Rattle.field.specs.First.{when, differ}
+use Rattle.std.specs.Prelude.{List, [], ◌∷◌, Bool, true, false, Ok, Err}
+use Rattle.field.specs.First.{when}
 use Rattle.madt.specs.Entries.{Item}
-use Rattle.madt.specs.Entries.Item.{Of, Fault}
 use Rattle.madt.specs.declared.MadtEntry.{MadtEntry}
 use Rattle.madt.specs.declared.Kind.{Kind}
 use Rattle.madt.specs.declared.Kind.TheVariants.{
@@ -11,7 +10,6 @@ use Rattle.madt.specs.declared.Kind.TheVariants.{
   InterruptSourceOverride,
   NmiSource,
   LocalApicNmi,
-  LocalApicAddressOverride,
   LocalX2Apic,
   X2ApicNmi,
   MultiprocessorWakeup,
@@ -19,55 +17,34 @@ use Rattle.madt.specs.declared.Kind.TheVariants.{
   Reserved,
 }
 
--- the five lists, by number, and the number of no list
-abbrev pub processors : ℕ
-processors = 0
+-- the five lists
+pub data ListName : Type 0 where
+  processors : ListName
+  io_apics : ListName
+  interrupt_source_overrides : ListName
+  nmi_sources : ListName
+  local_apic_nmi_lines : ListName
 
-abbrev pub io_apics : ℕ
-io_apics = 1
-
-abbrev pub interrupt_source_overrides : ℕ
-interrupt_source_overrides = 2
-
-abbrev pub nmi_sources : ℕ
-nmi_sources = 3
-
-abbrev pub local_apic_nmi_lines : ℕ
-local_apic_nmi_lines = 4
-
-abbrev pub no_list : ℕ
-no_list = 5
-
--- the list that the entries of a kind go to
-abbrev pub list_of : Kind → ℕ
-list_of LocalApic = processors
-list_of LocalX2Apic = processors
-list_of IoApic = io_apics
-list_of InterruptSourceOverride = interrupt_source_overrides
-list_of NmiSource = nmi_sources
-list_of LocalApicNmi = local_apic_nmi_lines
-list_of X2ApicNmi = local_apic_nmi_lines
-list_of LocalApicAddressOverride = no_list
-list_of MultiprocessorWakeup = no_list
-list_of Foreign = no_list
-list_of Reserved = no_list
+-- The entries of a kind go to the list. Those of a kind that is not named here go to none.
+abbrev pub goes_to : Kind → ListName → Bool
+goes_to LocalApic processors = true
+goes_to LocalX2Apic processors = true
+goes_to IoApic io_apics = true
+goes_to InterruptSourceOverride interrupt_source_overrides = true
+goes_to NmiSource nmi_sources = true
+goes_to LocalApicNmi local_apic_nmi_lines = true
+goes_to X2ApicNmi local_apic_nmi_lines = true
+goes_to _ _ = false
 
 -- an entry of this kind says that the machine has this interrupt model
 abbrev pub of_model : Kind → Bool
-of_model LocalApic = true
-of_model LocalX2Apic = true
-of_model IoApic = true
-of_model InterruptSourceOverride = true
-of_model NmiSource = true
-of_model LocalApicNmi = true
-of_model X2ApicNmi = true
-of_model LocalApicAddressOverride = true
 of_model MultiprocessorWakeup = false
 of_model Foreign = false
 of_model Reserved = false
+of_model _ = true
 
--- the entries that go to list l, in order
-unfoldable pub those : ℕ → List Item → List MadtEntry
+-- the entries that go to the list, in order
+unfoldable pub those : ListName → List Item → List MadtEntry
 those l [] = []
-those l (Fault at ∷ items) = those l items
-those l (Of e ∷ items) = when (differ (list_of e.kind) l) (those l items) (e ∷ those l items)
+those l (Ok e ∷ items) = when (goes_to e.kind l) (e ∷ those l items) (those l items)
+those l (Err r ∷ items) = those l items

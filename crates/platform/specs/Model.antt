@@ -1,47 +1,28 @@
--- The interrupt model that the entries of the MADT describe, and the numbers that refuse it.
-use Rattle.std.specs.Prelude.{ℕ, ◌<◌, ◌≡◌, List, [], ◌∷◌, Bool, false, ◌&&◌, ◌||◌, ◌==◌, length}
-use Rattle.field.specs.First.{when, differ, Reason, first_number, Ascending}
+-- The interrupt model that the entries of the MADT describe, and the refusals of it.
+use Rattle.std.specs.Prelude.{ℕ, ◌≡◌, List, [], ◌∷◌, Bool, false, ◌&&◌, ◌||◌, ◌==◌, length, Result, Ok, Err}
+use Rattle.refusal.specs.Number.{number_of}
+use Rattle.refusal.specs.declared.Refusal.{Refusal}
+use Rattle.refusal.specs.declared.Refusal.TheVariants.{TooShort, InconsistentEntry, WrongEntryField}
+use Rattle.field.specs.First.{Reason, checked, Ascending}
 use Rattle.field.specs.First.Reason.{◌gives◌}
+use Rattle.field.specs.Then.{and_then}
 use Rattle.madt.specs.Fields.{value, address_override}
 use Rattle.madt.specs.Fixed.{not_madt, madt_of}
 use Rattle.madt.specs.Entries.{Item, entries, faulty}
-use Rattle.madt.specs.Entries.Item.{Of, Fault}
 use Rattle.madt.specs.declared.Madt.{Madt}
 use Rattle.madt.specs.declared.MadtEntry.{MadtEntry}
 use Rattle.madt.specs.declared.Kind.{Kind}
-use Rattle.madt.specs.declared.Kind.TheVariants.{
-  LocalApic,
-  IoApic,
-  InterruptSourceOverride,
-  NmiSource,
-  LocalApicNmi,
-  LocalApicAddressOverride,
-  LocalX2Apic,
-  X2ApicNmi,
-  MultiprocessorWakeup,
-  Foreign,
-  Reserved,
-}
+use Rattle.madt.specs.declared.Kind.TheVariants.{LocalApicAddressOverride}
 use Rattle.platform.specs.declared.Model.{Model}
-use Rattle.platform.specs.declared.Answer.{Answer}
-use Rattle.platform.specs.declared.Answer.TheVariants.{Model as Is, Refused}
-use Rattle.platform.specs.Lists.{
-  processors,
-  io_apics,
-  interrupt_source_overrides,
-  nmi_sources,
-  local_apic_nmi_lines,
-  no_list,
-  of_model,
-  those,
-}
+use Rattle.platform.specs.Lists.{ListName, of_model, those}
+use Rattle.platform.specs.Lists.ListName.{processors, io_apics, interrupt_source_overrides, nmi_sources, local_apic_nmi_lines}
 use Rattle.platform.specs.Wrong.{wrong_at}
 
 -- some entry has the property
 unfoldable pub some : (MadtEntry → Bool) → List Item → Bool
 some property [] = false
-some property (Of e ∷ items) = property e || some property items
-some property (Fault at ∷ items) = some property items
+some property (Ok e ∷ items) = property e || some property items
+some property (Err r ∷ items) = some property items
 
 -- the entry belongs to the model
 abbrev pub belongs : MadtEntry → Bool
@@ -54,22 +35,13 @@ wrong s e = wrong_at s e.at e.kind
 -- the local address after an entry: a Local APIC Address Override replaces it (5.2.12.8)
 abbrev pub address_after : List ℕ → ℕ → ℕ → Kind → ℕ
 address_after s address at LocalApicAddressOverride = value s at address_override
-address_after s address at LocalApic = address
-address_after s address at LocalX2Apic = address
-address_after s address at IoApic = address
-address_after s address at InterruptSourceOverride = address
-address_after s address at NmiSource = address
-address_after s address at LocalApicNmi = address
-address_after s address at X2ApicNmi = address
-address_after s address at MultiprocessorWakeup = address
-address_after s address at Foreign = address
-address_after s address at Reserved = address
+address_after s address at _ = address
 
 -- the local address after all entries, so that the last override wins
 unfoldable pub last_address : List ℕ → ℕ → List Item → ℕ
 last_address s address [] = address
-last_address s address (Of e ∷ items) = last_address s (address_after s address e.at e.kind) items
-last_address s address (Fault at ∷ items) = last_address s address items
+last_address s address (Ok e ∷ items) = last_address s (address_after s address e.at e.kind) items
+last_address s address (Err r ∷ items) = last_address s address items
 
 -- The model with the fields of the fixed part: known where some entry belongs to it, and the lengths of its lists.
 unfoldable pub model_with : List ℕ → Madt → Model
@@ -87,28 +59,24 @@ model_with s m =
 
 -- Where the model is not known, all of its lists are empty.
 abbrev pub UnknownIsEmpty : Type 0
-UnknownIsEmpty = (s : List ℕ) (m : Madt) → (model_with s m).known ≡ false → (l : ℕ) → l < no_list → those l (entries s) ≡ []
+UnknownIsEmpty = (s : List ℕ) (m : Madt) → (model_with s m).known ≡ false → (l : ListName) → those l (entries s) ≡ []
 
 -- a known model without a processor
 abbrev pub lacks_processor : Model → Bool
 lacks_processor model = model.known && model.processors == 0
 
 -- why there is no model
-unfoldable pub refusals : List ℕ → List Reason
+unfoldable pub refusals : List ℕ → List (Reason Refusal)
 refusals s =
-    (not_madt s gives 11)
-    ∷ (faulty (entries s) gives 15)
-    ∷ (lacks_processor (model_with s (madt_of s)) gives 15)
-    ∷ (some (wrong s) (entries s) gives 16)
+    (not_madt s gives TooShort)
+    ∷ (faulty (entries s) gives InconsistentEntry)
+    ∷ (lacks_processor (model_with s (madt_of s)) gives InconsistentEntry)
+    ∷ (some (wrong s) (entries s) gives WrongEntryField)
     ∷ []
 
 -- The reasons ascend, so that the first that holds gives the smallest number that applies, wherever the entries stand.
 abbrev pub RefusalsAscend : Type 0
-RefusalsAscend = (s : List ℕ) → Ascending 11 (refusals s)
+RefusalsAscend = (s : List ℕ) → Ascending number_of 11 (refusals s)
 
--- the number that refuses, or the model where there is none
-unfoldable pub answered : ℕ → Model → Answer
-answered n model = when (differ n 0) (Refused n) (Is model)
-
-unfoldable pub model_of : List ℕ → Answer
-model_of s = answered (first_number (refusals s)) (model_with s (madt_of s))
+unfoldable pub model_of : List ℕ → Result Model Refusal
+model_of s = and_then (checked (refusals s)) (λ _. Ok (model_with s (madt_of s)))

@@ -1,6 +1,5 @@
 -- The records of the five lists, in 32-bit words (docs/TABLES.md, section 11).
-use Rattle.std.specs.Prelude.{ℕ, ◌%◌, List, [], ◌∷◌, ◌++◌}
-use Rattle.field.specs.First.{when, differ}
+use Rattle.std.specs.Prelude.{ℕ, ◌%◌, List, [], ◌∷◌, ◌++◌, Option, Some, None, if◌then◌else◌, ◌==◌}
 use Rattle.madt.specs.Fields.{
   value,
   local_apic_uid,
@@ -31,23 +30,12 @@ use Rattle.madt.specs.declared.Kind.TheVariants.{
   InterruptSourceOverride,
   NmiSource,
   LocalApicNmi,
-  LocalApicAddressOverride,
   LocalX2Apic,
   X2ApicNmi,
-  MultiprocessorWakeup,
-  Foreign,
-  Reserved,
 }
-use Rattle.platform.specs.declared.Words.{Words}
-use Rattle.platform.specs.declared.Words.TheVariants.{Nothing, Two, Three}
-use Rattle.platform.specs.Lists.{
-  processors,
-  io_apics,
-  interrupt_source_overrides,
-  nmi_sources,
-  local_apic_nmi_lines,
-  those,
-}
+use Rattle.platform.specs.declared.Record.{Record}
+use Rattle.platform.specs.declared.Record.TheVariants.{Processor, Controller, Override, Nmi, NmiLine}
+use Rattle.platform.specs.Lists.{ListName, those}
 
 -- the states of a processor
 abbrev pub disabled : ℕ
@@ -60,38 +48,40 @@ abbrev pub running : ℕ
 running = 2
 
 -- Bit 0 of the Local APIC flags, Enabled (5.2.12.2): a processor without it is disabled, one with it is in the state `enabled`.
-unfoldable pub state_of : ℕ → ℕ → ℕ
-state_of flags enabled = when (differ (flags % 2) 1) disabled enabled
+abbrev pub state_of : ℕ → ℕ → ℕ
+state_of flags enabled = if flags % 2 == 1 then enabled else disabled
 
 -- The uid 0xff of a Local APIC NMI entry stands for all processors (5.2.12.7). In a record 0xffffffff does, as in an entry for
 -- the x2APIC (5.2.12.13).
-unfoldable pub uid_or_all : ℕ → ℕ
-uid_or_all uid = when (differ uid 0xff) uid 0xffff_ffff
+abbrev pub uid_or_all : ℕ → ℕ
+uid_or_all uid = if uid == 0xff then 0xffff_ffff else uid
 
 -- The record of an entry of each kind: its list, and its two or three words. Of the MPS INTI flags (5.2.12.5) the low four bits
 -- are told, polarity and trigger.
-abbrev pub record_of : List ℕ → ℕ → ℕ → Kind → Words
+abbrev pub record_of : List ℕ → ℕ → ℕ → Kind → Option Record
 record_of s enabled at LocalApic =
-    Three processors (value s at local_apic_uid) (value s at local_apic_id) (state_of (value s at local_apic_flags) enabled)
+    Some (Processor (value s at local_apic_uid ∷ value s at local_apic_id ∷ state_of (value s at local_apic_flags) enabled ∷ []))
 record_of s enabled at LocalX2Apic =
-    Three processors (value s at local_x2apic_uid) (value s at local_x2apic_id) (state_of (value s at local_x2apic_flags) enabled)
+    Some (Processor (value s at local_x2apic_uid ∷ value s at local_x2apic_id ∷ state_of (value s at local_x2apic_flags) enabled ∷ []))
 record_of s enabled at IoApic =
-    Three io_apics (value s at io_apic_id) (value s at io_apic_address) (value s at io_apic_interrupt_base)
+    Some (Controller (value s at io_apic_id ∷ value s at io_apic_address ∷ value s at io_apic_interrupt_base ∷ []))
 record_of s enabled at InterruptSourceOverride =
-    Three interrupt_source_overrides (value s at override_source) (value s at override_interrupt) (value s at override_flags % 16)
-record_of s enabled at NmiSource = Two nmi_sources (value s at nmi_source_interrupt) (value s at nmi_source_flags % 16)
-record_of s enabled at LocalApicNmi = Two local_apic_nmi_lines (uid_or_all (value s at local_apic_nmi_uid)) (value s at local_apic_nmi_line)
-record_of s enabled at X2ApicNmi = Two local_apic_nmi_lines (value s at x2apic_nmi_uid) (value s at x2apic_nmi_line)
-record_of s enabled at LocalApicAddressOverride = Nothing
-record_of s enabled at MultiprocessorWakeup = Nothing
-record_of s enabled at Foreign = Nothing
-record_of s enabled at Reserved = Nothing
+    Some (Override (value s at override_source ∷ value s at override_interrupt ∷ (value s at override_flags % 16) ∷ []))
+record_of s enabled at NmiSource =
+    Some (Nmi (value s at nmi_source_interrupt ∷ (value s at nmi_source_flags % 16) ∷ []))
+record_of s enabled at LocalApicNmi =
+    Some (NmiLine (uid_or_all (value s at local_apic_nmi_uid) ∷ value s at local_apic_nmi_line ∷ []))
+record_of s enabled at X2ApicNmi = Some (NmiLine (value s at x2apic_nmi_uid ∷ value s at x2apic_nmi_line ∷ []))
+record_of s enabled at _ = None
 
 -- the words of a record
-abbrev pub spelled : Words → List ℕ
-spelled Nothing = []
-spelled (Two list a b) = a ∷ b ∷ []
-spelled (Three list a b c) = a ∷ b ∷ c ∷ []
+abbrev pub spelled : Option Record → List ℕ
+spelled None = []
+spelled (Some (Processor words)) = words
+spelled (Some (Controller words)) = words
+spelled (Some (Override words)) = words
+spelled (Some (Nmi words)) = words
+spelled (Some (NmiLine words)) = words
 
 -- The records of some entries, one after the other. The state of the first that is enabled is given, the others wait.
 unfoldable pub words_of : List ℕ → ℕ → List MadtEntry → List ℕ
@@ -99,5 +89,5 @@ words_of s enabled [] = []
 words_of s enabled (e ∷ es) = spelled (record_of s enabled e.at e.kind) ++ words_of s waiting es
 
 -- What list l holds. The first processor is the boot processor, which runs.
-unfoldable pub list : ℕ → List ℕ → List ℕ
+unfoldable pub list : ListName → List ℕ → List ℕ
 list l s = words_of s running (those l (entries s))

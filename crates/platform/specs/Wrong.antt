@@ -9,30 +9,18 @@ use Rattle.madt.specs.Fields.{
   x2apic_nmi_line,
 }
 use Rattle.madt.specs.declared.Kind.{Kind}
-use Rattle.madt.specs.declared.Kind.TheVariants.{
-  LocalApic,
-  IoApic,
-  InterruptSourceOverride,
-  NmiSource,
-  LocalApicNmi,
-  LocalApicAddressOverride,
-  LocalX2Apic,
-  X2ApicNmi,
-  MultiprocessorWakeup,
-  Foreign,
-  Reserved,
-}
+use Rattle.madt.specs.declared.Kind.TheVariants.{InterruptSourceOverride, NmiSource, LocalApicNmi, X2ApicNmi}
 
 -- MPS INTI flags (5.2.12.5): polarity in bits 0 and 1, trigger in bits 2 and 3; the value 2 is reserved in both
-unfoldable pub wrong_flags : ℕ → Bool
+abbrev pub wrong_flags : ℕ → Bool
 wrong_flags flags = flags % 4 == 2 || flags / 4 % 4 == 2
 
 -- an override is of the ISA bus, 0 (5.2.12.5)
-unfoldable pub wrong_bus : ℕ → Bool
+abbrev pub wrong_bus : ℕ → Bool
 wrong_bus bus = not (bus == 0)
 
 -- a local APIC has the interrupt inputs 0 and 1 (5.2.12.7)
-unfoldable pub wrong_line : ℕ → Bool
+abbrev pub wrong_line : ℕ → Bool
 wrong_line line = nat_lt 1 line
 
 -- an entry of this kind at `at` is wrong
@@ -41,10 +29,4 @@ wrong_at s at InterruptSourceOverride = wrong_bus (value s at override_bus) || w
 wrong_at s at NmiSource = wrong_flags (value s at nmi_source_flags)
 wrong_at s at LocalApicNmi = wrong_line (value s at local_apic_nmi_line)
 wrong_at s at X2ApicNmi = wrong_line (value s at x2apic_nmi_line)
-wrong_at s at LocalApic = false
-wrong_at s at LocalX2Apic = false
-wrong_at s at IoApic = false
-wrong_at s at LocalApicAddressOverride = false
-wrong_at s at MultiprocessorWakeup = false
-wrong_at s at Foreign = false
-wrong_at s at Reserved = false
+wrong_at s at _ = false

@@ -3,25 +3,21 @@
 // table, and has an answer for any slice.
 #![tactic(auto)]
 
-ghost use Rattle.std.specs.Prelude.{◌≡◌, false, ◌+◌, ◌≤◌, ◌%◌, length};
-ghost use Rattle.std.proofs.lemmas.List.Edits.{sets};
+ghost use Rattle.std.specs.Prelude.{◌≡◌, false, ◌+◌, ◌<◌, ◌≤◌, ◌%◌, ◌++◌, length, take, drop};
 ghost use Rattle.field.specs.Number.{number};
 ghost use Rattle.madt.specs.Kinds.{least_length};
-ghost use Rattle.madt.specs.Fixed.{not_madt, madt_of};
 ghost use Rattle.madt.specs.Entries.{entries, faulty};
 ghost use Rattle.madt.specs.declared.Kind.TheVariants.{LocalApic, LocalX2Apic, IoApic, InterruptSourceOverride, NmiSource, LocalApicNmi, X2ApicNmi};
-ghost use Rattle.platform.specs.Lists.{list_of, of_model};
-ghost use Rattle.platform.specs.Records.{state_of, uid_or_all, record_of, spelled};
+ghost use Rattle.platform.specs.Lists.{ListName, of_model};
+ghost use Rattle.platform.specs.Records.{state_of, uid_or_all, record_of};
 ghost use Rattle.platform.specs.Wrong.{wrong_flags, wrong_bus, wrong_line, wrong_at};
-ghost use Rattle.platform.specs.Model.{address_after, model_of};
-ghost use Rattle.platform.specs.Fill.{fill_number, Filled};
-ghost use Rattle.platform.specs.Mailbox.{is_wakeup, first_mailbox, mailbox_of};
-ghost use Rattle.platform.specs.Inner.{seen_of, enabled_at, goes_to, chosen, Rooms, Lists};
+ghost use Rattle.platform.specs.Model.{model_of};
+ghost use Rattle.platform.specs.Fill.{Filled};
+ghost use Rattle.platform.specs.Mailbox.{first_mailbox, mailbox_of};
+ghost use Rattle.platform.specs.Inner.{count, with_entry, seen_of, enabled_at, Rooms, Lists};
 
-use madt::{Fixed, Kind, Madt, Next};
-
-// The entries stand behind the fixed part of the table.
-const FIXED_PART: usize = 44;
+use madt::{Kind, Madt, MadtEntry};
+use refusal::Refusal;
 
 // The model, by the names of the Rust crate: how many records each of its lists has, the address of the local
 // interrupt controllers, and whether the machine also has the old pair of controllers. It is known if an entry of
@@ -38,48 +34,14 @@ pub struct Model {
     pub local_apic_nmi_lines: usize,
 }
 
-#[derive(Clone, Copy)]
-pub enum Answer {
-    Model(Model),
-    Refused(u32),
-}
-
-// The list that entries of a kind go to: 0 to 4 as `fill` takes them, 5 for none.
-fn list_of(kind: Kind) -> usize
-    ensures { result ≡ list_of kind }
-{
-    match kind {
-        Kind::LocalApic => 0,
-        Kind::LocalX2Apic => 0,
-        Kind::IoApic => 1,
-        Kind::InterruptSourceOverride => 2,
-        Kind::NmiSource => 3,
-        Kind::LocalApicNmi => 4,
-        Kind::X2ApicNmi => 4,
-        Kind::LocalApicAddressOverride => 5,
-        Kind::MultiprocessorWakeup => 5,
-        Kind::Foreign => 5,
-        Kind::Reserved => 5,
-    }
-}
-
 // Whether an entry of this kind says that the machine has this interrupt model.
 fn of_model(kind: Kind) -> bool
     ensures { result ≡ of_model kind }
 {
-    match kind {
-        Kind::LocalApic => true,
-        Kind::LocalX2Apic => true,
-        Kind::IoApic => true,
-        Kind::InterruptSourceOverride => true,
-        Kind::NmiSource => true,
-        Kind::LocalApicNmi => true,
-        Kind::X2ApicNmi => true,
-        Kind::LocalApicAddressOverride => true,
-        Kind::MultiprocessorWakeup => false,
-        Kind::Foreign => false,
-        Kind::Reserved => false,
-    }
+    !matches!(
+        kind,
+        Kind::MultiprocessorWakeup | Kind::Foreign | Kind::Reserved
+    )
 }
 
 // The value 2 is reserved, for the polarity in bits 0 and 1 and for the trigger in bits 2 and 3.
@@ -107,124 +69,100 @@ fn wrong_line(table: &[u8], at: usize) -> bool
     1 < field::u8_at(table, at)
 }
 
-// Whether what an entry of this kind says can not be.
-fn wrong_at(table: &[u8], at: usize, kind: Kind) -> bool
-    requires { at + least_length kind ≤ length table.now }
-    ensures { result ≡ wrong_at table.now at kind }
+// Whether what an entry says can not be.
+fn wrong_at(table: &[u8], e: MadtEntry) -> bool
+    requires { e.at + least_length e.kind ≤ length table.now }
+    ensures { result ≡ wrong_at table.now e.at e.kind }
 {
-    match kind {
-        Kind::InterruptSourceOverride => wrong_bus(table, at + 2) | wrong_flags(table, at + 8),
-        Kind::NmiSource => wrong_flags(table, at + 2),
-        Kind::LocalApicNmi => wrong_line(table, at + 5),
-        Kind::X2ApicNmi => wrong_line(table, at + 8),
+    match e.kind {
+        Kind::InterruptSourceOverride => {
+            wrong_bus(table, e.at + 2) | wrong_flags(table, e.at + 8)
+        }
+        Kind::NmiSource => wrong_flags(table, e.at + 2),
+        Kind::LocalApicNmi => wrong_line(table, e.at + 5),
+        Kind::X2ApicNmi => wrong_line(table, e.at + 8),
         _ => false,
     }
 }
 
-// A local address override replaces the address that was there before.
-fn address_after(table: &[u8], address: u64, at: usize, kind: Kind) -> u64
-    requires { at + least_length kind ≤ length table.now }
-    ensures { result ≡ address_after table.now address at kind }
+// The model with one more entry taken in: a processor, controller, override or interrupt is counted, and an address
+// override replaces the address that was there before.
+fn with_entry(table: &[u8], model: Model, e: MadtEntry) -> Model
+    requires inside { e.at + least_length e.kind ≤ length table.now }
+    requires fits { (l : ListName) → count model l < usize.MAX }
+    ensures { result ≡ with_entry table.now model e }
 {
-    match kind {
-        Kind::LocalApicAddressOverride => field::u64_at(table, at + 4),
-        _ => address,
+    let mut model = model;
+    model.known |= of_model(e.kind);
+    match e.kind {
+        Kind::LocalApic | Kind::LocalX2Apic => model.processors += 1,
+        Kind::IoApic => model.io_apics += 1,
+        Kind::InterruptSourceOverride => model.interrupt_source_overrides += 1,
+        Kind::NmiSource => model.nmi_sources += 1,
+        Kind::LocalApicNmi | Kind::X2ApicNmi => model.local_apic_nmi_lines += 1,
+        Kind::LocalApicAddressOverride => {
+            model.local_apic_address = field::u64_at(table, e.at + 4);
+        }
+        _ => {}
     }
+    model
 }
 
-// What going through all entries tells: a fault, or whether an entry is wrong, and the model.
+// What going through all entries tells: whether an entry is wrong, and the model.
 #[derive(Clone, Copy)]
-enum Seen {
-    Fault,
-    Whole(bool, Model),
+struct Seen {
+    wrong: bool,
+    model: Model,
 }
 
-// Goes through all entries once.
-fn survey(table: &[u8], m: Madt) -> Seen
+// Goes through all entries once. A fault refuses, wherever it stands.
+fn survey(table: &[u8], m: Madt) -> Result<Seen, Refusal>
     ensures { result ≡ seen_of table.now m }
 {
-    let mut counts = [0usize; 6];
-    let mut known = false;
     let mut wrong = false;
-    let mut address = m.local_apic_address as u64;
-    let mut at = FIXED_PART;
-    loop {
-        match madt::next_entry(table, at) {
-            Next::Entry(e) => {
-                let kind = e.kind;
-                let list = list_of(kind);
-                counts[list] += 1;
-                known = known | of_model(kind);
-                wrong = wrong | wrong_at(table, at, kind);
-                address = address_after(table, address, at, kind);
-                at += e.len;
-            }
-            Next::Fault => return Seen::Fault,
-            Next::End => {
-                return Seen::Whole(
-                    wrong,
-                    Model {
-                        known,
-                        local_apic_address: address,
-                        also_has_legacy_pics: m.supports_8259,
-                        processors: counts[0],
-                        io_apics: counts[1],
-                        interrupt_source_overrides: counts[2],
-                        nmi_sources: counts[3],
-                        local_apic_nmi_lines: counts[4],
-                    },
-                );
-            }
-        }
+    let mut model = Model {
+        known: false,
+        local_apic_address: m.local_apic_address as u64,
+        also_has_legacy_pics: m.supports_8259,
+        processors: 0,
+        io_apics: 0,
+        interrupt_source_overrides: 0,
+        nmi_sources: 0,
+        local_apic_nmi_lines: 0,
+    };
+    for entry in madt::entries(table) {
+        let e = entry?;
+        wrong = wrong | wrong_at(table, e);
+        model = with_entry(table, model, e);
     }
+    Ok(Seen { wrong, model })
 }
 
-// 15 goes before 16, wherever the entries stand.
-fn judged(table: &[u8], m: Madt) -> Answer
-    requires fixed_part { not_madt table.now ≡ false }
-    requires read_from_it { m ≡ madt_of table.now }
+// The interrupt model, or the refusal with the smallest number: 15 goes before 16, wherever the entries stand.
+#[tactic(auto, unfolding(crate::specs::Model::model_of, crate::specs::Model::refusals, crate::specs::Inner::seen_of, madt::specs::Fixed::fixed_of, madt::specs::Fixed::madt_checked, field::specs::First::checked, field::specs::First::when))]
+pub fn interrupt_model(table: &[u8]) -> Result<Model, Refusal>
     ensures { result ≡ model_of table.now }
 {
-    match survey(table, m) {
-        Seen::Fault => Answer::Refused(15),
-        Seen::Whole(wrong, model) => {
-            if model.known & (model.processors == 0) {
-                return Answer::Refused(15);
-            }
-            if wrong {
-                return Answer::Refused(16);
-            }
-            Answer::Model(model)
-        }
+    let m = madt::fixed_part(table)?;
+    let seen = survey(table, m)?;
+    let model = seen.model;
+    if model.known && model.processors == 0 {
+        return Err(Refusal::InconsistentEntry);
     }
+    if seen.wrong {
+        return Err(Refusal::WrongEntryField);
+    }
+    Ok(model)
 }
 
-// The interrupt model, or the smallest number that refuses it.
-pub fn interrupt_model(table: &[u8]) -> Answer
-    ensures { result ≡ model_of table.now }
-{
-    match madt::fixed_part(table) {
-        Fixed::Part(m) => judged(table, m),
-        Fixed::Refused(n) => Answer::Refused(n),
-    }
-}
-
-// An entry's record: the list that it goes to, and its words.
+// An entry's record, by the list that it goes to.
 #[derive(Clone, Copy)]
-enum Words {
-    Nothing,
-    Two(usize, u32, u32),
-    Three(usize, u32, u32, u32),
-}
-
-fn goes_to(words: Words) -> usize
-    ensures { result ≡ goes_to words }
-{
-    match words {
-        Words::Nothing => 5,
-        Words::Two(list, _, _) => list,
-        Words::Three(list, _, _, _) => list,
-    }
+enum Record {
+    Processor([u32; 3]),
+    Controller([u32; 3]),
+    Override([u32; 3]),
+    Nmi([u32; 2]),
+    NmiLine([u32; 2]),
 }
 
 // In a Local APIC NMI entry the number 0xff stands for all processors, in an answer 0xffffffff does.
@@ -253,132 +191,59 @@ fn inti_flags(table: &[u8], at: usize) -> u32
     (field::u16_at(table, at) % 16) as u32
 }
 
-// The records of the kinds. `enabled` is the state of a processor that may be used; only processors have one.
-fn local_apic(table: &[u8], at: usize, enabled: u32) -> Words
-    requires { at + 8 ≤ length table.now }
-    ensures { result ≡ record_of table.now enabled at LocalApic }
+// The record of an entry. `enabled` is the state of a processor that may be used; only processors have one.
+fn record_of(table: &[u8], enabled: u32, e: MadtEntry) -> Option<Record>
+    requires { e.at + least_length e.kind ≤ length table.now }
+    ensures { result ≡ record_of table.now enabled e.at e.kind }
 {
-    Words::Three(
-        0,
-        field::u8_at(table, at + 2) as u32,
-        field::u8_at(table, at + 3) as u32,
-        state(table, at + 4, enabled),
-    )
-}
-
-fn local_x2apic(table: &[u8], at: usize, enabled: u32) -> Words
-    requires { at + 16 ≤ length table.now }
-    ensures { result ≡ record_of table.now enabled at LocalX2Apic }
-{
-    Words::Three(
-        0,
-        field::u32_at(table, at + 12),
-        field::u32_at(table, at + 4),
-        state(table, at + 8, enabled),
-    )
-}
-
-fn io_apic(table: &[u8], at: usize, enabled: u32) -> Words
-    requires { at + 12 ≤ length table.now }
-    ensures { result ≡ record_of table.now enabled at IoApic }
-{
-    Words::Three(
-        1,
-        field::u8_at(table, at + 2) as u32,
-        field::u32_at(table, at + 4),
-        field::u32_at(table, at + 8),
-    )
-}
-
-fn interrupt_source_override(table: &[u8], at: usize, enabled: u32) -> Words
-    requires { at + 10 ≤ length table.now }
-    ensures { result ≡ record_of table.now enabled at InterruptSourceOverride }
-{
-    Words::Three(
-        2,
-        field::u8_at(table, at + 3) as u32,
-        field::u32_at(table, at + 4),
-        inti_flags(table, at + 8),
-    )
-}
-
-fn nmi_source(table: &[u8], at: usize, enabled: u32) -> Words
-    requires { at + 8 ≤ length table.now }
-    ensures { result ≡ record_of table.now enabled at NmiSource }
-{
-    Words::Two(3, field::u32_at(table, at + 4), inti_flags(table, at + 2))
-}
-
-fn local_apic_nmi(table: &[u8], at: usize, enabled: u32) -> Words
-    requires { at + 6 ≤ length table.now }
-    ensures { result ≡ record_of table.now enabled at LocalApicNmi }
-{
-    Words::Two(
-        4,
-        uid_or_all(table, at + 2),
-        field::u8_at(table, at + 5) as u32,
-    )
-}
-
-fn x2apic_nmi(table: &[u8], at: usize, enabled: u32) -> Words
-    requires { at + 12 ≤ length table.now }
-    ensures { result ≡ record_of table.now enabled at X2ApicNmi }
-{
-    Words::Two(
-        4,
-        field::u32_at(table, at + 4),
-        field::u8_at(table, at + 8) as u32,
-    )
-}
-
-fn record_of(table: &[u8], enabled: u32, at: usize, kind: Kind) -> Words
-    requires { at + least_length kind ≤ length table.now }
-    ensures { result ≡ record_of table.now enabled at kind }
-{
-    match kind {
-        Kind::LocalApic => local_apic(table, at, enabled),
-        Kind::LocalX2Apic => local_x2apic(table, at, enabled),
-        Kind::IoApic => io_apic(table, at, enabled),
-        Kind::InterruptSourceOverride => interrupt_source_override(table, at, enabled),
-        Kind::NmiSource => nmi_source(table, at, enabled),
-        Kind::LocalApicNmi => local_apic_nmi(table, at, enabled),
-        Kind::X2ApicNmi => x2apic_nmi(table, at, enabled),
-        _ => Words::Nothing,
+    let at = e.at;
+    match e.kind {
+        Kind::LocalApic => Some(Record::Processor([
+            field::u8_at(table, at + 2) as u32,
+            field::u8_at(table, at + 3) as u32,
+            state(table, at + 4, enabled),
+        ])),
+        Kind::LocalX2Apic => Some(Record::Processor([
+            field::u32_at(table, at + 12),
+            field::u32_at(table, at + 4),
+            state(table, at + 8, enabled),
+        ])),
+        Kind::IoApic => Some(Record::Controller([
+            field::u8_at(table, at + 2) as u32,
+            field::u32_at(table, at + 4),
+            field::u32_at(table, at + 8),
+        ])),
+        Kind::InterruptSourceOverride => Some(Record::Override([
+            field::u8_at(table, at + 3) as u32,
+            field::u32_at(table, at + 4),
+            inti_flags(table, at + 8),
+        ])),
+        Kind::NmiSource => Some(Record::Nmi([
+            field::u32_at(table, at + 4),
+            inti_flags(table, at + 2),
+        ])),
+        Kind::LocalApicNmi => Some(Record::NmiLine([
+            uid_or_all(table, at + 2),
+            field::u8_at(table, at + 5) as u32,
+        ])),
+        Kind::X2ApicNmi => Some(Record::NmiLine([
+            field::u32_at(table, at + 4),
+            field::u8_at(table, at + 8) as u32,
+        ])),
+        _ => None,
     }
 }
 
 // Writes a record's words and answers the place behind them.
-fn write(out: &mut [u32], to: usize, words: Words) -> usize
-    requires { to + length (spelled words) ≤ length out.old }
-    ensures next { result ≡ to + length (spelled words) }
-    ensures written { out.new ≡ sets out.old to (spelled words) }
+fn put(out: &mut [u32], to: usize, words: &[u32]) -> usize
+    requires { to + length words.now ≤ length out.old }
+    ensures next { result ≡ to + length words.now }
+    ensures written { take result out.new ≡ take to out.old ++ words.now }
+    ensures kept { drop result out.new ≡ drop result out.old }
 {
-    match words {
-        Words::Nothing => to,
-        Words::Two(_, a, b) => {
-            out[to] = a;
-            out[to + 1] = b;
-            to + 2
-        }
-        Words::Three(_, a, b, c) => {
-            out[to] = a;
-            out[to + 1] = b;
-            out[to + 2] = c;
-            to + 3
-        }
-    }
-}
-
-// The same, if the record is of the list that `out` is for.
-fn put(list: usize, out: &mut [u32], to: usize, words: Words) -> usize
-    requires { to + length (chosen list words) ≤ length out.old }
-    ensures next { result ≡ to + length (chosen list words) }
-    ensures written { out.new ≡ sets out.old to (chosen list words) }
-{
-    if goes_to(words) != list {
-        return to;
-    }
-    write(out, to, words)
+    let end = to + words.len();
+    out[to..end].copy_from_slice(words);
+    end
 }
 
 // The state of the next processor that is enabled: the first one runs, all others wait to be started.
@@ -410,44 +275,16 @@ fn fill_lists(
     let mut o = 0;
     let mut n = 0;
     let mut l = 0;
-    let mut at = FIXED_PART;
-    while at < table.len() {
-        let kind = madt::kind_of(field::u8_at(table, at));
-        let words = record_of(table, enabled_at(p), at, kind);
-        p = put(0, processors, p, words);
-        i = put(1, io_apics, i, words);
-        o = put(2, interrupt_source_overrides, o, words);
-        n = put(3, nmi_sources, n, words);
-        l = put(4, local_apic_nmi_lines, l, words);
-        at += field::u8_at(table, at + 1) as usize;
-    }
-}
-
-// The number that refuses to fill tables of these lengths, 0 if none does. Nothing is written before this is known.
-fn fill_number(
-    table: &[u8],
-    processors: usize,
-    io_apics: usize,
-    interrupt_source_overrides: usize,
-    nmi_sources: usize,
-    local_apic_nmi_lines: usize,
-) -> u32
-    ensures { result ≡ fill_number table.now processors io_apics interrupt_source_overrides nmi_sources
-        local_apic_nmi_lines }
-{
-    match interrupt_model(table) {
-        Answer::Model(m) => {
-            if (processors / 3 < m.processors)
-                | (io_apics / 3 < m.io_apics)
-                | (interrupt_source_overrides / 3 < m.interrupt_source_overrides)
-                | (nmi_sources / 2 < m.nmi_sources)
-                | (local_apic_nmi_lines / 2 < m.local_apic_nmi_lines)
-            {
-                return 17;
-            }
-            0
+    for entry in madt::entries(table) {
+        let e = entry.unwrap();
+        match record_of(table, enabled_at(p), e) {
+            Some(Record::Processor(words)) => p = put(processors, p, &words),
+            Some(Record::Controller(words)) => i = put(io_apics, i, &words),
+            Some(Record::Override(words)) => o = put(interrupt_source_overrides, o, &words),
+            Some(Record::Nmi(words)) => n = put(nmi_sources, n, &words),
+            Some(Record::NmiLine(words)) => l = put(local_apic_nmi_lines, l, &words),
+            None => {}
         }
-        Answer::Refused(n) => n,
     }
 }
 
@@ -462,22 +299,20 @@ pub fn fill(
     interrupt_source_overrides: &mut [u32],
     nmi_sources: &mut [u32],
     local_apic_nmi_lines: &mut [u32],
-) -> u32
+) -> Result<(), Refusal>
     ensures { Filled table.now result processors.old processors.new io_apics.old
         io_apics.new interrupt_source_overrides.old interrupt_source_overrides.new
         nmi_sources.old nmi_sources.new local_apic_nmi_lines.old
         local_apic_nmi_lines.new }
 {
-    let refused = fill_number(
-        table,
-        processors.len(),
-        io_apics.len(),
-        interrupt_source_overrides.len(),
-        nmi_sources.len(),
-        local_apic_nmi_lines.len(),
-    );
-    if refused != 0 {
-        return refused;
+    let m = interrupt_model(table)?;
+    if processors.len() / 3 < m.processors
+        || io_apics.len() / 3 < m.io_apics
+        || interrupt_source_overrides.len() / 3 < m.interrupt_source_overrides
+        || nmi_sources.len() / 2 < m.nmi_sources
+        || local_apic_nmi_lines.len() / 2 < m.local_apic_nmi_lines
+    {
+        return Err(Refusal::BufferTooShort);
     }
     fill_lists(
         table,
@@ -487,69 +322,29 @@ pub fn fill(
         nmi_sources,
         local_apic_nmi_lines,
     );
-    0
+    Ok(())
 }
 
-#[derive(Clone, Copy)]
-pub enum Mailbox {
-    Address(u64),
-    Refused(u32),
-}
-
-fn is_wakeup(kind: Kind) -> bool
-    ensures { result ≡ is_wakeup kind }
-{
-    match kind {
-        Kind::MultiprocessorWakeup => true,
-        Kind::LocalApic => false,
-        Kind::LocalX2Apic => false,
-        Kind::IoApic => false,
-        Kind::InterruptSourceOverride => false,
-        Kind::NmiSource => false,
-        Kind::LocalApicNmi => false,
-        Kind::X2ApicNmi => false,
-        Kind::LocalApicAddressOverride => false,
-        Kind::Foreign => false,
-        Kind::Reserved => false,
-    }
-}
-
-fn first_mailbox(table: &[u8]) -> Mailbox
+#[tactic(auto, using(madt::proofs::EntryLaws::entries_stand, madt::proofs::EntryLaws::standing_rest), unfolding(crate::specs::Mailbox::first_mailbox, field::specs::First::when))]
+fn first_mailbox(table: &[u8]) -> Result<u64, Refusal>
     ensures { result ≡ first_mailbox table.now (entries table.now) }
 {
-    let mut at = FIXED_PART;
-    loop {
-        match madt::next_entry(table, at) {
-            Next::Entry(e) => {
-                let kind = e.kind;
-                if is_wakeup(kind) {
-                    return Mailbox::Address(field::u64_at(table, at + 8));
-                }
-                at += e.len;
-            }
-            Next::Fault => return Mailbox::Refused(15),
-            Next::End => return Mailbox::Refused(15),
+    for entry in madt::entries(table) {
+        let e = entry?;
+        if e.kind == Kind::MultiprocessorWakeup {
+            return Ok(field::u64_at(table, e.at + 8));
         }
     }
+    Err(Refusal::InconsistentEntry)
 }
 
-// A table with a fault has no mailbox, also where the fault stands behind the entry.
-fn sound_mailbox(table: &[u8], m: Madt) -> Mailbox
-    requires { not_madt table.now ≡ false }
+// The address of the mailbox through which an operating system wakes processors. A table with a fault has none, also
+// where the fault stands behind the entry.
+#[tactic(auto, unfolding(crate::specs::Mailbox::mailbox_of, crate::specs::Inner::seen_of, madt::specs::Fixed::fixed_of, madt::specs::Fixed::madt_checked, field::specs::First::checked, field::specs::First::when))]
+pub fn mailbox_address(table: &[u8]) -> Result<u64, Refusal>
     ensures { result ≡ mailbox_of table.now }
 {
-    match survey(table, m) {
-        Seen::Fault => Mailbox::Refused(15),
-        Seen::Whole(_, _) => first_mailbox(table),
-    }
-}
-
-// The address of the mailbox through which an operating system wakes processors.
-pub fn mailbox_address(table: &[u8]) -> Mailbox
-    ensures { result ≡ mailbox_of table.now }
-{
-    match madt::fixed_part(table) {
-        Fixed::Part(m) => sound_mailbox(table, m),
-        Fixed::Refused(n) => Mailbox::Refused(n),
-    }
+    let m = madt::fixed_part(table)?;
+    survey(table, m)?;
+    first_mailbox(table)
 }

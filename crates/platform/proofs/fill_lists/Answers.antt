@@ -1,104 +1,161 @@
-use Rattle.std.proofs.Common.{refl, ap, ◌∙◌, arith}
-use Rattle.madt.specs.Kinds.{kind_of, least_length}
-use Rattle.madt.specs.Entries.{entries}
-use Rattle.madt.proofs.EntryLaws.{stands, sound_entry}
-use Rattle.platform.specs.Lists.{processors, io_apics, interrupt_source_overrides, nmi_sources, local_apic_nmi_lines}
-use Rattle.platform.proofs.ListLaws.{those_past}
-use Rattle.platform.proofs.FillLaws.{fill_start, fill_end, turn, fill_room, fill_entry, still_sound}
+use Rattle.std.proofs.Common.{◌∙◌, refl, ap, sym, subst}
+use Rattle.std.specs.Prelude.{Some}
+use Rattle.madt.specs.Walk.{left}
+use Rattle.madt.specs.Entries.{faulty}
+use Rattle.madt.proofs.EntryLaws.{Standing, entries_stand, standing_rest, sound_entry, sound_rest}
+use Rattle.platform.specs.Lists.ListName.{processors, io_apics, interrupt_source_overrides, nmi_sources, local_apic_nmi_lines}
+use Rattle.platform.proofs.FillLaws.{fill_start, fill_end, turn, fill_room, fill_mine, fill_other}
 use Rattle.platform.proofs.fill_lists.Goals as goal
 
-pub loop-at-init : goal.loop-at-init
-unfolding entries
-loop-at-init c =
-    let asked = c.requires in (
-      asked.faultless,
-      fill_start processors _ _ asked.rooms.processors,
-      fill_start io_apics _ _ asked.rooms.io_apics,
-      fill_start interrupt_source_overrides _ _ asked.rooms.interrupt_source_overrides,
-      fill_start nmi_sources _ _ asked.rooms.nmi_sources,
-      fill_start local_apic_nmi_lines _ _ asked.rooms.local_apic_nmi_lines,
-    )
+pub loop-entry-init : goal.loop-entry-init
+loop-entry-init c =
+    let q = ap left c.into_iter-entry-iterator.ensures.into_iter_gives ∙ c.entries-entry-items.ensures in
+    let rooms = c.requires.rooms in
+    record {
+      standing = subst (Standing _) (sym q) (entries_stand _);
+      faultless = ap faulty q ∙ c.requires.faultless;
+      for_processors = fill_start processors _ _ q rooms.processors;
+      for_io_apics = fill_start io_apics _ _ q rooms.io_apics;
+      for_overrides = fill_start interrupt_source_overrides _ _ q rooms.interrupt_source_overrides;
+      for_nmi_sources = fill_start nmi_sources _ _ q rooms.nmi_sources;
+      for_nmi_lines = fill_start local_apic_nmi_lines _ _ q rooms.local_apic_nmi_lines;
+    }
 
-pub record_of-words-requires : goal.record_of-words-requires
-record_of-words-requires c =
-    let kind = c.kind_of-kind.ensures ∙ ap kind_of c.u8_at.ensures in
-    omega (arith, stands _ _ _ (sound_entry _ _ c.loop-at.invariant.0 c.loop-at-test.true), ap (λ k. least_length k) kind)
+pub unwrap-e-requires : goal.unwrap-e-requires
+unwrap-e-requires c = sound_entry c.loop-entry.invariant.faultless c.in-Some.ensures.steps
 
 pub put-p-requires : goal.put-p-requires
 put-p-requires c =
-    let t = turn c.loop-at.invariant.0 c.loop-at-test.true c.u8_at.ensures c.kind_of-kind.ensures c.enabled_at.ensures c.record_of-words.ensures in
-    fill_room t processors _ (omega arith) (λ _. refl) c.loop-at.invariant.1
+    let here = c.in-Some-Processor.is ∙ ap Some c.in-Some-Processor.field-0-is in
+    let t = turn c.in-Some.ensures.steps c.unwrap-e.ensures c.enabled_at.ensures c.record_of.ensures here in
+    fill_room t processors refl (λ _. refl) c.loop-entry.invariant.for_processors
+
+pub loop-entry-preserved-in-Some-Processor : goal.loop-entry-preserved-in-Some-Processor
+loop-entry-preserved-in-Some-Processor c =
+    let here = c.in-Some-Processor.is ∙ ap Some c.in-Some-Processor.field-0-is in
+    let t = turn c.in-Some.ensures.steps c.unwrap-e.ensures c.enabled_at.ensures c.record_of.ensures here in
+    let was = c.loop-entry.invariant in
+    let put = c.put-p.ensures in
+    record {
+      standing = standing_rest was.standing c.in-Some.ensures.steps;
+      faultless = sound_rest was.faultless c.in-Some.ensures.steps;
+      for_processors = fill_mine t processors refl (λ _. refl) was.for_processors put.next put.written put.kept c.put-p.auto.out;
+      for_io_apics = fill_other t io_apics refl was.for_io_apics;
+      for_overrides = fill_other t interrupt_source_overrides refl was.for_overrides;
+      for_nmi_sources = fill_other t nmi_sources refl was.for_nmi_sources;
+      for_nmi_lines = fill_other t local_apic_nmi_lines refl was.for_nmi_lines;
+    }
 
 pub put-i-requires : goal.put-i-requires
 put-i-requires c =
-    let t = turn c.loop-at.invariant.0 c.loop-at-test.true c.u8_at.ensures c.kind_of-kind.ensures c.enabled_at.ensures c.record_of-words.ensures in
-    fill_room t io_apics _ (omega arith) (λ z. absurd (omega arith)) c.loop-at.invariant.2
+    let here = c.in-Some-Controller.is ∙ ap Some c.in-Some-Controller.field-0-is in
+    let t = turn c.in-Some.ensures.steps c.unwrap-e.ensures c.enabled_at.ensures c.record_of.ensures here in
+    fill_room t io_apics refl (λ z. cc) c.loop-entry.invariant.for_io_apics
+
+pub loop-entry-preserved-in-Some-Controller : goal.loop-entry-preserved-in-Some-Controller
+loop-entry-preserved-in-Some-Controller c =
+    let here = c.in-Some-Controller.is ∙ ap Some c.in-Some-Controller.field-0-is in
+    let t = turn c.in-Some.ensures.steps c.unwrap-e.ensures c.enabled_at.ensures c.record_of.ensures here in
+    let was = c.loop-entry.invariant in
+    let put = c.put-i.ensures in
+    record {
+      standing = standing_rest was.standing c.in-Some.ensures.steps;
+      faultless = sound_rest was.faultless c.in-Some.ensures.steps;
+      for_processors = fill_other t processors refl was.for_processors;
+      for_io_apics = fill_mine t io_apics refl (λ z. cc) was.for_io_apics put.next put.written put.kept c.put-i.auto.out;
+      for_overrides = fill_other t interrupt_source_overrides refl was.for_overrides;
+      for_nmi_sources = fill_other t nmi_sources refl was.for_nmi_sources;
+      for_nmi_lines = fill_other t local_apic_nmi_lines refl was.for_nmi_lines;
+    }
 
 pub put-o-requires : goal.put-o-requires
 put-o-requires c =
-    let t = turn c.loop-at.invariant.0 c.loop-at-test.true c.u8_at.ensures c.kind_of-kind.ensures c.enabled_at.ensures c.record_of-words.ensures in
-    fill_room t interrupt_source_overrides _ (omega arith) (λ z. absurd (omega arith)) c.loop-at.invariant.3
+    let here = c.in-Some-Override.is ∙ ap Some c.in-Some-Override.field-0-is in
+    let t = turn c.in-Some.ensures.steps c.unwrap-e.ensures c.enabled_at.ensures c.record_of.ensures here in
+    fill_room t interrupt_source_overrides refl (λ z. cc) c.loop-entry.invariant.for_overrides
+
+pub loop-entry-preserved-in-Some-Override : goal.loop-entry-preserved-in-Some-Override
+loop-entry-preserved-in-Some-Override c =
+    let here = c.in-Some-Override.is ∙ ap Some c.in-Some-Override.field-0-is in
+    let t = turn c.in-Some.ensures.steps c.unwrap-e.ensures c.enabled_at.ensures c.record_of.ensures here in
+    let was = c.loop-entry.invariant in
+    let put = c.put-o.ensures in
+    record {
+      standing = standing_rest was.standing c.in-Some.ensures.steps;
+      faultless = sound_rest was.faultless c.in-Some.ensures.steps;
+      for_processors = fill_other t processors refl was.for_processors;
+      for_io_apics = fill_other t io_apics refl was.for_io_apics;
+      for_overrides = fill_mine t interrupt_source_overrides refl (λ z. cc) was.for_overrides put.next put.written put.kept c.put-o.auto.out;
+      for_nmi_sources = fill_other t nmi_sources refl was.for_nmi_sources;
+      for_nmi_lines = fill_other t local_apic_nmi_lines refl was.for_nmi_lines;
+    }
 
 pub put-n-requires : goal.put-n-requires
 put-n-requires c =
-    let t = turn c.loop-at.invariant.0 c.loop-at-test.true c.u8_at.ensures c.kind_of-kind.ensures c.enabled_at.ensures c.record_of-words.ensures in
-    fill_room t nmi_sources _ (omega arith) (λ z. absurd (omega arith)) c.loop-at.invariant.4
+    let here = c.in-Some-Nmi.is ∙ ap Some c.in-Some-Nmi.field-0-is in
+    let t = turn c.in-Some.ensures.steps c.unwrap-e.ensures c.enabled_at.ensures c.record_of.ensures here in
+    fill_room t nmi_sources refl (λ z. cc) c.loop-entry.invariant.for_nmi_sources
+
+pub loop-entry-preserved-in-Some-Nmi : goal.loop-entry-preserved-in-Some-Nmi
+loop-entry-preserved-in-Some-Nmi c =
+    let here = c.in-Some-Nmi.is ∙ ap Some c.in-Some-Nmi.field-0-is in
+    let t = turn c.in-Some.ensures.steps c.unwrap-e.ensures c.enabled_at.ensures c.record_of.ensures here in
+    let was = c.loop-entry.invariant in
+    let put = c.put-n.ensures in
+    record {
+      standing = standing_rest was.standing c.in-Some.ensures.steps;
+      faultless = sound_rest was.faultless c.in-Some.ensures.steps;
+      for_processors = fill_other t processors refl was.for_processors;
+      for_io_apics = fill_other t io_apics refl was.for_io_apics;
+      for_overrides = fill_other t interrupt_source_overrides refl was.for_overrides;
+      for_nmi_sources = fill_mine t nmi_sources refl (λ z. cc) was.for_nmi_sources put.next put.written put.kept c.put-n.auto.out;
+      for_nmi_lines = fill_other t local_apic_nmi_lines refl was.for_nmi_lines;
+    }
 
 pub put-l-requires : goal.put-l-requires
 put-l-requires c =
-    let t = turn c.loop-at.invariant.0 c.loop-at-test.true c.u8_at.ensures c.kind_of-kind.ensures c.enabled_at.ensures c.record_of-words.ensures in
-    fill_room t local_apic_nmi_lines _ (omega arith) (λ z. absurd (omega arith)) c.loop-at.invariant.5
+    let here = c.in-Some-NmiLine.is ∙ ap Some c.in-Some-NmiLine.field-0-is in
+    let t = turn c.in-Some.ensures.steps c.unwrap-e.ensures c.enabled_at.ensures c.record_of.ensures here in
+    fill_room t local_apic_nmi_lines refl (λ z. cc) c.loop-entry.invariant.for_nmi_lines
 
-pub overflow_add-at : goal.overflow_add-at
-overflow_add-at c = omega (arith, stands _ _ _ (sound_entry _ _ c.loop-at.invariant.0 c.loop-at-test.true))
+pub loop-entry-preserved-in-Some-NmiLine : goal.loop-entry-preserved-in-Some-NmiLine
+loop-entry-preserved-in-Some-NmiLine c =
+    let here = c.in-Some-NmiLine.is ∙ ap Some c.in-Some-NmiLine.field-0-is in
+    let t = turn c.in-Some.ensures.steps c.unwrap-e.ensures c.enabled_at.ensures c.record_of.ensures here in
+    let was = c.loop-entry.invariant in
+    let put = c.put-l.ensures in
+    record {
+      standing = standing_rest was.standing c.in-Some.ensures.steps;
+      faultless = sound_rest was.faultless c.in-Some.ensures.steps;
+      for_processors = fill_other t processors refl was.for_processors;
+      for_io_apics = fill_other t io_apics refl was.for_io_apics;
+      for_overrides = fill_other t interrupt_source_overrides refl was.for_overrides;
+      for_nmi_sources = fill_other t nmi_sources refl was.for_nmi_sources;
+      for_nmi_lines = fill_mine t local_apic_nmi_lines refl (λ z. cc) was.for_nmi_lines put.next put.written put.kept c.put-l.auto.out;
+    }
 
-pub u8_at-requires-in-loop-at : goal.u8_at-requires-in-loop-at
-u8_at-requires-in-loop-at c = omega (arith, stands _ _ _ (sound_entry _ _ c.loop-at.invariant.0 c.loop-at-test.true))
-
-pub overflow_add-at-in-loop-at : goal.overflow_add-at-in-loop-at
-overflow_add-at-in-loop-at c = omega (arith, stands _ _ _ (sound_entry _ _ c.loop-at.invariant.0 c.loop-at-test.true))
-
-pub loop-at-smaller : goal.loop-at-smaller
-loop-at-smaller c = omega (arith, stands _ _ _ (sound_entry _ _ c.loop-at.invariant.0 c.loop-at-test.true))
-
-pub loop-at-preserved : goal.loop-at-preserved
-loop-at-preserved c =
-    let t = turn c.loop-at.invariant.0 c.loop-at-test.true c.u8_at.ensures c.kind_of-kind.ensures c.enabled_at.ensures c.record_of-words.ensures in
-    let was = c.loop-at.invariant in
-    let len = c.u8_at-in-loop-at.ensures in (
-      still_sound t was.0 len,
-      fill_entry t processors _ (omega arith) (λ _. refl) was.1 c.put-p.ensures.next c.put-p.ensures.written len,
-      fill_entry t io_apics _ (omega arith) (λ z. absurd (omega arith)) was.2 c.put-i.ensures.next c.put-i.ensures.written len,
-      fill_entry t interrupt_source_overrides _ (omega arith) (λ z. absurd (omega arith)) was.3 c.put-o.ensures.next
-          c.put-o.ensures.written len,
-      fill_entry t nmi_sources _ (omega arith) (λ z. absurd (omega arith)) was.4 c.put-n.ensures.next c.put-n.ensures.written len,
-      fill_entry t local_apic_nmi_lines _ (omega arith) (λ z. absurd (omega arith)) was.5 c.put-l.ensures.next c.put-l.ensures.written
-          len,
-    )
-
-pub shape_of-processors : goal.shape_of-processors
-shape_of-processors c = c.loop-at.invariant.1.same
-
-pub shape_of-io_apics : goal.shape_of-io_apics
-shape_of-io_apics c = c.loop-at.invariant.2.same
-
-pub shape_of-interrupt_source_overrides : goal.shape_of-interrupt_source_overrides
-shape_of-interrupt_source_overrides c = c.loop-at.invariant.3.same
-
-pub shape_of-nmi_sources : goal.shape_of-nmi_sources
-shape_of-nmi_sources c = c.loop-at.invariant.4.same
-
-pub shape_of-local_apic_nmi_lines : goal.shape_of-local_apic_nmi_lines
-shape_of-local_apic_nmi_lines c = c.loop-at.invariant.5.same
+pub loop-entry-preserved : goal.loop-entry-preserved
+loop-entry-preserved c =
+    let t = turn c.in-Some.ensures.steps c.unwrap-e.ensures c.enabled_at.ensures c.record_of.ensures c.in-None-record_of.is in
+    let was = c.loop-entry.invariant in
+    record {
+      standing = standing_rest was.standing c.in-Some.ensures.steps;
+      faultless = sound_rest was.faultless c.in-Some.ensures.steps;
+      for_processors = fill_other t processors refl was.for_processors;
+      for_io_apics = fill_other t io_apics refl was.for_io_apics;
+      for_overrides = fill_other t interrupt_source_overrides refl was.for_overrides;
+      for_nmi_sources = fill_other t nmi_sources refl was.for_nmi_sources;
+      for_nmi_lines = fill_other t local_apic_nmi_lines refl was.for_nmi_lines;
+    }
 
 pub returns : goal.returns
 returns c =
-    let none = those_past _ _ c.loop-at-test.false in
-    let was = c.loop-at.invariant in
+    let was = c.loop-entry.invariant in
+    let none = c.in-None.ensures.steps.0 in
     record {
-      processors = fill_end processors _ _ _ _ _ (none processors) was.1;
-      io_apics = fill_end io_apics _ _ _ _ _ (none io_apics) was.2;
-      interrupt_source_overrides = fill_end interrupt_source_overrides _ _ _ _ _ (none interrupt_source_overrides) was.3;
-      nmi_sources = fill_end nmi_sources _ _ _ _ _ (none nmi_sources) was.4;
-      local_apic_nmi_lines = fill_end local_apic_nmi_lines _ _ _ _ _ (none local_apic_nmi_lines) was.5;
+      processors = fill_end was.for_processors none;
+      io_apics = fill_end was.for_io_apics none;
+      interrupt_source_overrides = fill_end was.for_overrides none;
+      nmi_sources = fill_end was.for_nmi_sources none;
+      local_apic_nmi_lines = fill_end was.for_nmi_lines none;
     }

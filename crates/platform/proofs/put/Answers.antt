@@ -1,15 +1,7 @@
--- `put` meets its contract: of another list's record nothing is chosen, of its own list's all.
-use Rattle.std.proofs.Common.{refl, sym, ◌∙◌, add-zero}
-use Rattle.platform.proofs.ListLaws.{chosen_other, chosen_same}
+-- `put` meets its contract: behind the words the table is as it was.
+use Rattle.std.proofs.Common.{arith}
+use Rattle.std.proofs.lemmas.Slice.{drop-put_mid}
 use Rattle.platform.proofs.put.Goals as goal
 
-pub returns-then-goes_to-list : goal.returns-then-goes_to-list
-returns-then-goes_to-list c =
-    let other = chosen_other _ c.args.words (λ q. c.if-goes_to-list.true (c.goes_to.ensures ∙ q)) in
-    rw other (record { next = sym (add-zero _); written = refl })
-
-pub write-requires : goal.write-requires
-write-requires c = rw (chosen_same _ _ (sym c.goes_to.ensures ∙ c.if-goes_to-list.false)) at c.requires
-
-pub returns : goal.returns
-returns c = rw (chosen_same _ _ (sym c.goes_to.ensures ∙ c.if-goes_to-list.false)) c.write.ensures
+pub returns-clause-kept : goal.returns-clause-kept
+returns-clause-kept c = grind (arith, drop-put_mid)

@@ -1,11 +1,7 @@
 -- `survey` meets its contract. The loop's invariant: what is told so far, with what the rest tells, is what the table tells.
-use Rattle.std.proofs.Common.{◌-◌, length}
+use Rattle.madt.specs.Walk.{left}
 use Rattle.platform.proofs.SurveyLaws.{Surveying}
 use Rattle.platform.proofs.survey.Given as goal
 
-abbrev pub invariant-loop-e : goal.invariant-loop-e
-invariant-loop-e l =
-    Surveying l.table l.m.local_apic_address l.counts l.known l.wrong l.address l.at
-
-abbrev pub decreases-loop-e : goal.decreases-loop-e
-decreases-loop-e l = length l.table - l.at
+abbrev pub invariant-loop-entry : goal.invariant-loop-entry
+invariant-loop-entry l = Surveying l.table l.fn.m l.wrong l.model (left l.entry-iterator)
