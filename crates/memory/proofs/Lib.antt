@@ -1,5 +1,4 @@
 -- Laws about ranges, places, views and questions, which the crates above cite.
-pub mod TestLaws
 pub mod RangeLaws
 pub mod PlaceLaws
 pub mod PieceLaws

@@ -1,20 +1,28 @@
 -- Laws about places and views: the theorems of specs/Statements, and what the crates above use.
-use Rattle.std.proofs.Common.{ℕ, zero, suc, ◌+◌, ◌-◌, ◌*◌, ◌≤◌, ◌<◌, min, ◌≡◌, refl, ap, sym, ◌∙◌, List, [], ◌∷◌, ◌++◌, Bool, true, false, ◌⊎◌, ⊎_elim, arith, length, get_or, take, drop, set, length-take, length-drop, take-take, take_all, get_or-drop, ext_get_or, drop-set-lt}
+use Rattle.std.proofs.Common.{ℕ, zero, suc, ◌+◌, ◌-◌, ◌≤◌, ◌<◌, min, ◌≡◌, refl, ap, sym, ◌∙◌, List, [], ◌∷◌, ◌++◌, Bool, true, false, ◌⊎◌, ⊎_elim, arith, leb, leb-true, leb-false, map, length, get_or, take, drop, set, length-take, length-take-le, length-drop, take-take, take_all, get_or-drop, ext_get_or, drop-set-lt}
 use Rattle.std.specs.Prelude.{Option, Some, None}
-use Rattle.std.proofs.lemmas.Option.{same_Some, none-some}
+use Rattle.std.proofs.lemmas.Option.{same_Some, none-some, slice_get-get_or}
+use Rattle.std.proofs.lemmas.List.{get_or-take}
 use native.Mathlib.Decide.{dec_le}
 use lib.Seq.{drop-set-add, take-set-le}
+use Rattle.field.specs.First.{when}
 use Rattle.field.specs.Part.{part}
 use Rattle.field.proofs.FirstLaws.{when_hit, when_pass}
 use Rattle.field.proofs.PartLaws.{part_length, part_at}
-use Rattle.memory.specs.Ranges.{ranges_of, inside, all_inside, follows, ordered, right}
+use Rattle.std.specs.List.{list_all, AllWithin, slice_get}
+use Rattle.std.specs.List.Sorted.{IsPartitionPoint, IsPartitionedBy}
+use Rattle.std.specs.Fn.{Called, ComputesKey}
+use Rattle.std.proofs.lemmas.List.Sorted.{IsPartitionedBy-leb, IsPartitionPoint-from_clause}
+use denote.Param.Members.{Mut}
+use denote.Ref.{Bor}
+use Rattle.std.specs.Option.{MatchOption}
+use Rattle.std.proofs.lemmas.Bool.{and_parts}
+use Rattle.memory.specs.Ranges.{range_of, ranges_of, inside, ordered, right}
 use Rattle.memory.specs.Places.{holds, place_in, place_of, bytes_at, view_of}
 use Rattle.memory.specs.Statements.{OneHolder, InsideTheSlice, InsideOneRange, ReadableIfHeld, OtherBytesStay}
-use Rattle.memory.specs.Walk.{range_at}
 use Rattle.memory.specs.declared.Range.{Range}
 use Rattle.memory.specs.declared.Place.{Place}
-use Rattle.memory.proofs.TestLaws.{and_left, and_right}
-use Rattle.memory.proofs.RangeLaws.{ranges_step, right_inside, right_ordered, inside_slice, follows_end, holds_start, holds_len, holds_yes, holds_above, holds_below}
+use Rattle.memory.proofs.RangeLaws.{starts_ascend, right_inside, right_ordered, inside_slice, follows_end, holds_start, holds_len, holds_yes, holds_above, holds_below}
 
 -- A place that was found is that in a range of the list that holds the address.
 pub record Found (rs : List Range) (p : ℕ) (place : Place) : Type 0 where
@@ -45,10 +53,9 @@ place_found (r ∷ rs) p place e = go (holds r p) refl (place_found rs p place)
         }
 
 -- Each range of a list whose ranges are all inside is.
-member_inside : (size : ℕ) (before after : List Range) (r : Range) → all_inside size (before ++ r ∷ after) ≡ true → inside size r ≡ true
-unfolding all_inside
-member_inside size [] after r e = and_left _ (all_inside size after) e
-member_inside size (b ∷ before) after r e = member_inside size before after r (and_right (inside size b) _ e)
+member_inside : (size : ℕ) (before after : List Range) (r : Range) → list_all (inside size) (before ++ r ∷ after) ≡ true → inside size r ≡ true
+member_inside size [] after r e = (and_parts _ _ e).0
+member_inside size (b ∷ before) after r e = member_inside size before after r (and_parts _ _ e).1
 
 -- What `place_in` says, as numbers.
 record Numbers (r : Range) (p : ℕ) (place : Place) : Type 0 where
@@ -56,20 +63,18 @@ record Numbers (r : Range) (p : ℕ) (place : Place) : Type 0 where
   pub left : r.len - (p - r.start) ≡ place.room
 
 numbers : (r : Range) (p : ℕ) (place : Place) → place_in r p ≡ place → Numbers r p place
-unfolding place_in
 numbers r p place e = record { at = ap (λ (q : Place). q.offset) e; left = ap (λ (q : Place). q.room) e }
 
 -- And the other way round.
 place_of_numbers : (r : Range) (p offset room : ℕ) → r.offset + (p - r.start) ≡ offset → r.len - (p - r.start) ≡ room
     → place_in r p ≡ record { offset = offset; room = room }
-unfolding place_in
 place_of_numbers r p offset room at left = λ i. record { offset = at i; room = left i }
 
 pub inside_the_slice : InsideTheSlice
 inside_the_slice size words p place e q =
     let f = place_found (ranges_of words) p place q in
     let n = numbers f.range p place f.there in
-    let i = inside_slice size f.range (member_inside size f.before f.after f.range (ap (all_inside size) (sym f.listed) ∙ right_inside size words e)) in
+    let i = inside_slice size f.range (member_inside size f.before f.after f.range (ap (list_all (inside size)) (sym f.listed) ∙ right_inside size words e)) in
     omega (arith, holds_len f.range p f.held)
 
 pub inside_one_range : InsideOneRange
@@ -92,14 +97,14 @@ inside_one_range words p place q =
 -- In an ordered list a range ends before every later one starts.
 ends_before : (b : Range) (between after : List Range) (r : Range) → ordered (b ∷ (between ++ r ∷ after)) ≡ true → b.start + b.len ≤ r.start
 unfolding ordered
-ends_before b [] after r e = follows_end b r (and_left _ (ordered (r ∷ after)) e)
+ends_before b [] after r e = follows_end b r (and_parts _ _ e).0
 ends_before b (c ∷ between) after r e =
-    omega (arith, follows_end b c (and_left _ (ordered (c ∷ (between ++ r ∷ after))) e), ends_before c between after r (and_right (follows b c) _ e))
+    omega (arith, follows_end b c (and_parts _ _ e).0, ends_before c between after r (and_parts _ _ e).1)
 
 ordered_tail : (b : Range) (rs : List Range) → ordered (b ∷ rs) ≡ true → ordered rs ≡ true
 unfolding ordered
 ordered_tail b [] e = refl
-ordered_tail b (r ∷ rs) e = and_right (follows b r) _ e
+ordered_tail b (r ∷ rs) e = (and_parts _ _ e).1
 
 -- In an ordered list no range before one that starts at the address or below holds it.
 place_passed : (before after : List Range) (r : Range) (p : ℕ) → ordered (before ++ r ∷ after) ≡ true → r.start ≤ p
@@ -120,58 +125,68 @@ one_holder size words before after r p e listed h =
     ap (λ (l : List Range). place_of l p) listed
     ∙ one_holder_in before after r p (ap ordered (sym listed) ∙ right_ordered size words e) h
 
--- In an ordered list that starts above the address no range holds it.
-starts_above : (r : Range) (rs : List Range) (p : ℕ) → ordered (r ∷ rs) ≡ true → p < r.start → place_of (r ∷ rs) p ≡ None
+-- Where each range starts above the address, none holds it.
+none_above : (l : List (List ℕ)) (p : ℕ) → AllWithin (λ n. leb (range_of n).start p ≡ false) l 0 (length l) → place_of (map range_of l) p ≡ None
+unfolding place_of
+none_above [] p h = refl
+none_above (n ∷ l) p h =
+    when_pass _ _ _ (holds_above (range_of n) p (leb-false _ p (h 0 [] (omega arith) (omega arith))))
+    ∙ none_above l p (λ k d low high. h (suc k) d (omega arith) (omega arith))
+
+-- Of the ranges of an ordered list that start at the address or below, the last decides.
+last_decides : (l : List (List ℕ)) (i p : ℕ) → ordered (map range_of l) ≡ true → i < length l
+    → AllWithin (λ n. leb (range_of n).start p ≡ true) l 0 (suc i) → AllWithin (λ n. leb (range_of n).start p ≡ false) l (suc i) (length l)
+    → place_of (map range_of l) p ≡ when (holds (range_of (get_or l i [])) p) (Some (place_in (range_of (get_or l i [])) p)) None
 unfolding place_of ordered
-starts_above r [] p e h = when_pass _ _ _ (holds_above r p h)
-starts_above r (s ∷ rs) p e h =
-    when_pass _ _ _ (holds_above r p h)
-    ∙ starts_above s rs p (and_right (follows r s) _ e) (omega (arith, follows_end r s (and_left _ (ordered (s ∷ rs)) e)))
+last_decides [] i p e b below above = absurd (omega arith)
+last_decides (n ∷ l) zero p e b below above =
+    ap (when (holds (range_of n) p) (Some (place_in (range_of n) p))) (none_above l p (λ k d low high. above (suc k) d (omega arith) (omega arith)))
+last_decides (n ∷ []) (suc i) p e b below above = absurd (omega arith)
+last_decides (n ∷ m ∷ l) (suc i) p e b below above =
+    let next : (range_of m).start ≤ p = leb-true _ p (below 1 [] (omega arith) (omega arith)) in
+    when_pass _ _ _ (holds_below (range_of n) p (omega (arith, follows_end (range_of n) (range_of m) (and_parts _ _ e).0)))
+    ∙ last_decides (m ∷ l) i p (and_parts _ _ e).1 (omega arith)
+    (λ k d low high. below (suc k) d (omega arith) (omega arith))
+    (λ k d low high. above (suc k) d (omega arith) (omega arith))
 
--- The rest of an ordered list is ordered.
-ordered_after : (before rs : List Range) → ordered (before ++ rs) ≡ true → ordered rs ≡ true
-ordered_after [] rs e = e
-ordered_after (b ∷ before) rs e = ordered_after before rs (ordered_tail b (before ++ rs) e)
+-- Each range of a list whose ranges are all inside is.
+inside_at : (size : ℕ) (l : List (List ℕ)) (i : ℕ) (d : List ℕ) → list_all (inside size) (map range_of l) ≡ true → i < length l
+    → inside size (range_of (get_or l i d)) ≡ true
+inside_at size [] i d e b = absurd (omega arith)
+inside_at size (n ∷ l) zero d e b = (and_parts _ _ e).0
+inside_at size (n ∷ l) (suc i) d e b = inside_at size l i d (and_parts _ _ e).1 (omega arith)
 
--- The range whose three numbers begin at place j is one of the ranges from place i on.
-record Listed (words : List ℕ) (i j : ℕ) : Type 0 where
-  pub before : List Range
-  pub listed : ranges_of (drop i words) ≡ before ++ range_at words j ∷ ranges_of (drop (j + 3) words)
+-- A search parted the ranges of a right list into those that start at the address or below and those above it: the last of the
+-- former decides, and where there is none no range holds the address.
+module _ (size : ℕ) (words : List ℕ) (p : ℕ) (l : List (List ℕ)) (e : right size words ≡ true) (same : map range_of l ≡ ranges_of words) where
+  abbrev pub Decides : Option (List ℕ) → Type 0
+  Decides last =
+      MatchOption last (place_of (ranges_of words) p ≡ None) (λ n.
+      (inside size (range_of n) ≡ true) × (place_of (ranges_of words) p ≡ when (holds (range_of n) p) (Some (place_in (range_of n) p)) None))
 
-listed_from : (words : List ℕ) (i n j : ℕ) → i + 3 * n ≡ j → j + 3 ≤ length words → Listed words i j
-listed_from words i zero j e h =
-    let same : i ≡ j = omega arith in
-    record { before = []; listed = ap (λ (k : ℕ). ranges_of (drop k words)) same ∙ ranges_step words j h }
-listed_from words i (suc n) j e h =
-    let later = listed_from words (i + 3) n j (omega arith) h in
-    record {
-      before = range_at words i ∷ later.before;
-      listed = ranges_step words i (omega arith) ∙ ap (λ (l : List Range). range_at words i ∷ l) later.listed;
-    }
+  last_in_front : (i : ℕ) → i ≤ length l → IsPartitionPoint (λ n. leb (range_of n).start p ≡ true) (λ n. leb (range_of n).start p ≡ false) l i
+      → Decides (slice_get (take i l) (length (take i l) - 1))
+  last_in_front zero b point = ap (λ (rs : List Range). place_of rs p) (sym same) ∙ none_above l p point.1
+  last_in_front (suc i) b point =
+      let last : slice_get (take (suc i) l) (length (take (suc i) l) - 1) ≡ Some (get_or l i []) =
+      let len : length (take (suc i) l) - 1 ≡ i = omega (arith, length-take-le (suc i) l b) in
+      ap (slice_get (take (suc i) l)) len
+      ∙ slice_get-get_or (take (suc i) l) i [] (omega (arith, length-take-le (suc i) l b))
+      ∙ ap Some (get_or-take (suc i) l i [] (omega arith)) in
+      let order = ap ordered same ∙ right_ordered size words e in
+      let within = ap (list_all (inside size)) same ∙ right_inside size words e in
+      rw last
+      (inside_at size l i [] within (omega arith), ap (λ (rs : List Range). place_of rs p) (sym same) ∙ last_decides l i p order (omega arith) point.0 point.1)
 
--- Each range of a right list is inside the slice.
-pub range_inside : (size : ℕ) (words : List ℕ) (n : ℕ) → right size words ≡ true → 3 * n + 3 ≤ length words
-    → inside size (range_at words (3 * n)) ≡ true
-range_inside size words n e h =
-    let l = listed_from words 0 n (3 * n) (omega arith) h in
-    member_inside size l.before _ (range_at words (3 * n)) (ap (all_inside size) (sym l.listed) ∙ right_inside size words e)
-
--- Where a range of a right list starts at the address or below, it and those behind it give the place that all give.
-pub place_from : (size : ℕ) (words : List ℕ) (n p : ℕ) → right size words ≡ true → 3 * n + 3 ≤ length words
-    → (range_at words (3 * n)).start ≤ p → place_of (ranges_of (drop (3 * n) words)) p ≡ place_of (ranges_of words) p
-place_from size words n p e h k =
-    let l = listed_from words 0 n (3 * n) (omega arith) h in
-    ap (λ (rs : List Range). place_of rs p) (ranges_step words (3 * n) h)
-    ∙ sym (place_passed l.before _ (range_at words (3 * n)) p (ap ordered (sym l.listed) ∙ right_ordered size words e) k)
-    ∙ ap (λ (rs : List Range). place_of rs p) (sym l.listed)
-
--- Where it starts above the address, neither it nor one behind it holds the address.
-pub place_above : (size : ℕ) (words : List ℕ) (n p : ℕ) → right size words ≡ true → 3 * n + 3 ≤ length words
-    → p < (range_at words (3 * n)).start → place_of (ranges_of (drop (3 * n) words)) p ≡ None
-place_above size words n p e h k =
-    let l = listed_from words 0 n (3 * n) (omega arith) h in
-    ap (λ (rs : List Range). place_of rs p) (ranges_step words (3 * n) h)
-    ∙ starts_above (range_at words (3 * n)) _ p (ordered_after l.before _ (ap ordered (sym l.listed) ∙ right_ordered size words e)) k
+  pub last_of_part : (i : ℕ) → i ≤ length l → {F : Type 0} {g : Mut F (Bor (List ℕ) × Unit {0}) Bool} {f : F}
+      → ((q : List ℕ → Bool) → ComputesKey g q f → IsPartitionedBy q l → IsPartitionPoint (λ n. q n ≡ true) (λ n. q n ≡ false) l i)
+      → ((a : Bor (List ℕ) × Unit {0}) (r : Bool) (f' : F) → Called g f a r f' → (r ≡ leb (range_of a.0.now).start p) × (f' ≡ f))
+      → Decides (slice_get (take i l) (length (take i l) - 1))
+  last_of_part i b clause calls =
+      let order = ap ordered same ∙ right_ordered size words e in
+      last_in_front i b
+      (IsPartitionPoint-from_clause (λ (n : List ℕ). leb (range_of n).start p) l i clause
+      (IsPartitionedBy-leb (λ (n : List ℕ). (range_of n).start) l p (starts_ascend l order)) calls)
 
 -- The view at a place is that part of the slice.
 pub view_at : (image words : List ℕ) (p : ℕ) (place : Place) → place_of (ranges_of words) p ≡ Some place
@@ -190,7 +205,6 @@ view_room image words p place e q =
     ap length (view_at image words p place q) ∙ part_length image place.offset place.room (inside_the_slice (length image) words p place e q)
 
 pub readable_if_held : ReadableIfHeld
-unfolding place_in
 readable_if_held image words before after r p n e listed h k =
     let held = holds_yes r p h (omega arith) in
     let q = one_holder (length image) words before after r p e listed held in

@@ -3,5 +3,4 @@ pub mod Ranges
 pub mod Places
 pub mod Pieces
 pub mod Asked
-pub mod Walk
 pub mod Statements

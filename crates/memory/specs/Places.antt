@@ -7,11 +7,11 @@ use Rattle.memory.specs.declared.Range.{Range}
 use Rattle.memory.specs.declared.Place.{Place}
 
 -- the range has the byte at the physical address p
-unfoldable pub holds : Range → ℕ → Bool
+abbrev pub holds : Range → ℕ → Bool
 holds r p = nat_le r.start p && nat_lt (p - r.start) r.len
 
 -- its offset in the slice, and how many bytes the range has from there on
-unfoldable pub place_in : Range → ℕ → Place
+abbrev pub place_in : Range → ℕ → Place
 place_in r p = record { offset = r.offset + (p - r.start); room = r.len - (p - r.start) }
 
 -- the place of p in the first range that holds it

@@ -2,10 +2,11 @@
 // Addresses are compared and subtracted, and never added to before a range is found.
 #![tactic(auto)]
 
-ghost use Rattle.std.specs.Prelude.{◌≡◌, true, false, ◌+◌, ◌^◌, ◌≤◌, ◌<◌, length, IfOk, IfErr};
-ghost use Rattle.memory.specs.Ranges.{ranges_of, inside, all_inside, follows, ordered, right};
+ghost use Rattle.std.specs.Prelude.{◌≡◌, true, false, ◌+◌, ◌/◌, ◌^◌, ◌≤◌, ◌<◌, length, map, IfOk, IfErr, MatchOption};
+ghost use Rattle.std.specs.List.{list_all};
+ghost use Rattle.field.specs.First.{when};
+ghost use Rattle.memory.specs.Ranges.{range_of, ranges_of, inside, follows, ordered, right};
 ghost use Rattle.memory.specs.Places.{holds, place_in, place_of, view_of};
-ghost use Rattle.memory.specs.Walk.{range_at};
 
 use refusal::Refusal;
 
@@ -26,123 +27,87 @@ pub struct Place {
     pub room: usize,
 }
 
-// The range whose three numbers begin at place i of the list.
-fn range_at(ranges: &[u64], i: usize) -> Range
-    requires { i + 3 ≤ length ranges.now }
-    ensures { result ≡ range_at ranges.now i }
-{
-    Range {
-        start: ranges[i],
-        len: ranges[i + 1],
-        offset: ranges[i + 2],
+// The list has three numbers for a range.
+impl From<[u64; 3]> for Range {
+    ghost from_gives = { λ numbers range. range ≡ range_of numbers };
+
+    fn from(numbers: [u64; 3]) -> Range {
+        let [start, len, offset] = numbers;
+        Range { start, len, offset }
     }
 }
 
-// The range lies inside a slice of so many bytes and ends at 2^64 or below.
-fn is_inside(r: Range, size: usize) -> bool
-    ensures { result ≡ inside size r }
-{
-    let whole = size as u64;
-    if whole < r.offset {
-        return false;
+impl Range {
+    // The range lies inside a slice of so many bytes and ends at 2^64 or below.
+    fn is_inside(self, size: usize) -> bool
+        ensures { result ≡ inside size self }
+    {
+        let whole = size as u64;
+        self.offset <= whole
+            && self.len <= whole - self.offset
+            && (self.len == 0 || self.len - 1 <= u64::MAX - self.start)
     }
-    if whole - r.offset < r.len {
-        return false;
+
+    // The next range starts above the start of this one, and not before its end.
+    fn is_followed_by(self, next: Range) -> bool
+        ensures { result ≡ follows self next }
+    {
+        self.start < next.start && self.len <= next.start - self.start
     }
-    if r.len == 0 {
-        return true;
+
+    // The range has the byte at physical address p.
+    fn has(self, p: u64) -> bool
+        ensures { result ≡ holds self p }
+    {
+        self.start <= p && p - self.start < self.len
     }
-    if u64::MAX - r.start < r.len - 1 {
-        return false;
+
+    // Where an address that the range holds stands.
+    fn place(self, p: u64) -> Place
+        requires within { (self.start ≤ p) × (p ≤ self.start + self.len) }
+        requires addressable { self.offset + self.len < 2 ^ 64 }
+        ensures { result ≡ place_in self p }
+    {
+        let into = p - self.start;
+        Place {
+            offset: (self.offset + into) as usize,
+            room: (self.len - into) as usize,
+        }
     }
-    true
 }
 
-// The range s starts above the start of r, and not before its end.
-fn is_followed(r: Range, s: Range) -> bool
-    ensures { result ≡ follows r s }
+// The ranges of a flat list, three numbers each; what is left of a cut-off one is none.
+fn listed(numbers: &[u64]) -> &[[u64; 3]]
+    ensures ranges { map range_of result.now ≡ ranges_of numbers.now }
+    ensures count { length result.now ≡ length numbers.now / 3 }
 {
-    if s.start <= r.start {
-        return false;
-    }
-    if s.start - r.start < r.len {
-        return false;
-    }
-    true
+    let (ranges, _) = numbers.as_chunks();
+    ranges
 }
 
-fn are_inside(ranges: &[u64], size: usize) -> bool
-    ensures { result ≡ all_inside size (ranges_of ranges.now) }
+fn are_inside(ranges: &[[u64; 3]], size: usize) -> bool
+    ensures { result ≡ list_all (inside size) (map range_of ranges.now) }
 {
-    let mut i = 0;
-    while i < ranges.len() {
-        if ranges.len() - i < 3 {
-            return true;
-        }
-        if !is_inside(range_at(ranges, i), size) {
-            return false;
-        }
-        i += 3;
-    }
-    true
+    ranges
+        .iter()
+        .all(|numbers| Range::from(*numbers).is_inside(size))
 }
 
-fn are_ordered(ranges: &[u64]) -> bool
-    ensures { result ≡ ordered (ranges_of ranges.now) }
+fn are_ordered(ranges: &[[u64; 3]]) -> bool
+    ensures { result ≡ ordered (map range_of ranges.now) }
 {
-    let mut i = 0;
-    while i < ranges.len() {
-        if ranges.len() - i < 6 {
-            return true;
-        }
-        if !is_followed(range_at(ranges, i), range_at(ranges, i + 3)) {
-            return false;
-        }
-        i += 3;
-    }
-    true
+    ranges.is_sorted_by(|numbers, next| Range::from(*numbers).is_followed_by(Range::from(*next)))
 }
 
 // Whether the list is right for the slice: whole, not too long, each range inside, ascending and not overlapping.
 pub fn is_right(image: &[u8], ranges: &[u64]) -> bool
     ensures { result ≡ right (length image.now) ranges.now }
 {
-    if ranges.len() % 3 != 0 {
+    let list = listed(ranges);
+    if ranges.len() % 3 != 0 || MOST_RANGES < list.len() {
         return false;
     }
-    if MOST_RANGES < ranges.len() / 3 {
-        return false;
-    }
-    if !are_inside(ranges, image.len()) {
-        return false;
-    }
-    are_ordered(ranges)
-}
-
-// The range has the byte at physical address p.
-fn has(r: Range, p: u64) -> bool
-    ensures { result ≡ holds r p }
-{
-    if p < r.start {
-        return false;
-    }
-    if r.len <= p - r.start {
-        return false;
-    }
-    true
-}
-
-// Where an address that the range holds stands.
-fn place_in(r: Range, p: u64) -> Place
-    requires within { (r.start ≤ p) × (p ≤ r.start + r.len) }
-    requires addressable { r.offset + r.len < 2 ^ 64 }
-    ensures { result ≡ place_in r p }
-{
-    let into = p - r.start;
-    Place {
-        offset: (r.offset + into) as usize,
-        room: (r.len - into) as usize,
-    }
+    are_inside(list, image.len()) && are_ordered(list)
 }
 
 // Memory as it is lent: the slice, with a list of ranges that is right for it. Every question about addresses is asked of it.
@@ -166,26 +131,28 @@ impl<'a> Memory<'a> {
         }
     }
 
-    // Where the address stands, if a range holds it. The ranges ascend, so each look halves those that can hold it.
+    // The last range that starts at the address or below. The ranges ascend, so no other can hold the address.
+    fn last_up_to(self, p: u64) -> Option<Range>
+        ensures { MatchOption result (place_of (ranges_of self.entry.ranges.now) p ≡ None)
+            (λ range. (inside (length self.entry.image.now) range ≡ true)
+            × (place_of (ranges_of self.entry.ranges.now) p ≡ when (holds range p) (Some (place_in range p)) None)) }
+    {
+        let ranges = listed(self.ranges);
+        let starting = ranges.partition_point(|numbers| Range::from(*numbers).start <= p);
+        let numbers = ranges[..starting].last()?;
+        Some(Range::from(*numbers))
+    }
+
+    // Where the address stands, if a range holds it.
     pub fn locate(self, p: u64) -> Option<Place>
         ensures { result ≡ place_of (ranges_of self.entry.ranges.now) p }
     {
-        let ranges = self.ranges;
-        let mut low = 0;
-        let mut high = ranges.len() / 3;
-        while low < high {
-            let middle = low + (high - low) / 2;
-            let r = range_at(ranges, 3 * middle);
-            if p < r.start {
-                high = middle;
-                continue;
-            }
-            if has(r, p) {
-                return Some(place_in(r, p));
-            }
-            low = middle + 1;
+        let range = self.last_up_to(p)?;
+        if range.has(p) {
+            Some(range.place(p))
+        } else {
+            None
         }
-        None
     }
 
     // All bytes from the address to the end of its range; none where no range holds it.

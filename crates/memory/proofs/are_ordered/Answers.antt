@@ -1,22 +1,11 @@
-use Rattle.std.proofs.Common.{ap₂, sym, ◌∙◌, arith}
-use Rattle.memory.specs.Ranges.{follows}
-use Rattle.memory.proofs.RangeLaws.{order_step, order_fails, order_end}
+-- `are_ordered` meets its contract: the closure answers of each two neighbours whether the second follows the first.
+use Rattle.std.proofs.Common.{rules, ℕ, List}
+use Rattle.std.proofs.lemmas.List.Sorted.{answers_always}
+use Rattle.memory.specs.Ranges.{range_of, follows}
+use Rattle.memory.proofs.RangeLaws.{ordered_is}
 use Rattle.memory.proofs.are_ordered.Goals as goal
 
-pub returns-then-ranges-i-lt6 : goal.returns-then-ranges-i-lt6
-returns-then-ranges-i-lt6 c = sym (order_end c.args.ranges.now c.loop-i.i (omega arith)) ∙ c.loop-i.invariant
-
-pub returns-then-not-is_followed : goal.returns-then-not-is_followed
-returns-then-not-is_followed c =
-    let words = c.args.ranges.now in
-    let l = c.loop-i in
-    sym (order_fails words l.i (omega arith) (ap₂ follows (sym c.range_at.ensures) (sym c.range_at-in-loop-i.ensures) ∙ sym c.is_followed.ensures ∙ c.if-not-is_followed.true)) ∙ l.invariant
-
-pub loop-i-preserved : goal.loop-i-preserved
-loop-i-preserved c =
-    let words = c.args.ranges.now in
-    let l = c.loop-i in
-    sym (order_step words l.i (omega arith) (ap₂ follows (sym c.range_at.ensures) (sym c.range_at-in-loop-i.ensures) ∙ sym c.is_followed.ensures ∙ c.if-not-is_followed.false)) ∙ l.invariant
-
 pub returns : goal.returns
-returns c = sym (order_end c.args.ranges.now c.loop-i.i (omega arith)) ∙ c.loop-i.invariant
+returns c =
+    ordered_is c.args.ranges.now c.is_sorted_by.result
+    (c.is_sorted_by.ensures.cases (λ (x y : List ℕ). follows (range_of x) (range_of y)) (answers_always _ _ _ (λ f a r f' k. search rules)))
