@@ -1,27 +1,33 @@
--- Laws about refusals of a table: what each finding of the reader makes of the answer, and what a valid table is.
-use Rattle.std.proofs.Common.{ℕ, ◌+◌, ◌%◌, ◌≤◌, ◌<◌, max, ◌≡◌, refl, ap, ap₂, sym, ◌∙◌, List, [], ◌∷◌, Bool, true, false, not, ◌&&◌, arith, T, length, take}
-use Rattle.field.specs.First.{less, differ, when, Reason, ◌gives◌, first_number}
+-- Laws about what refuses a table: what each finding of the reader makes of the answer, and what a valid table is.
+use Rattle.std.proofs.Common.{ℕ, ◌+◌, ◌%◌, ◌≤◌, ◌<◌, max, ◌≡◌, refl, ap, ap₂, sym, ◌∙◌, List, [], ◌∷◌, ◌++◌, Bool, true, false, not, ◌&&◌, arith, length, take, sum, ◌⊎◌, inl, inr}
+use Rattle.std.specs.Prelude.{Ok, Err, slice_range}
+use Rattle.std.proofs.lemmas.Slice.{between_from_start}
+use Rattle.refusal.specs.Number.{number_of}
+use Rattle.refusal.specs.declared.Refusal.{Refusal}
+use Rattle.refusal.specs.declared.Refusal.TheVariants.{RootNotMapped, WrongSignature, WrongOemId, WrongTableId, WrongChecksum, TooShort, NoValidTable}
+use Rattle.field.specs.First.{less, differ, when, Reason, ◌gives◌, checked}
 use Rattle.field.specs.Number.{number}
 use Rattle.field.specs.Part.{part}
-use Rattle.field.specs.Sum.{sum}
 use Rattle.field.specs.Text.{text}
-use Rattle.field.proofs.FirstLaws.{less_yes, less_no, less_false, differ_yes, differ_no, differ_false, hit, pass, clear, all_clear, positive, append_stops, append_passes, ascends, ascending}
+use Rattle.field.proofs.FirstLaws.{less_yes, less_no, less_false, differ_false, hit, pass, all_clear, append_stops, append_passes, ascends, ascending}
 use Rattle.field.proofs.NumberLaws.{number_take}
 use Rattle.field.proofs.PartLaws.{part_of_take}
 use Rattle.sdt.specs.Header.{header_size, length_of, maker_of, table_id_of, whole_of}
-use Rattle.sdt.specs.Valid.{wrong_signature, wrong_sum, cut_off, header_reasons, table_reasons, table_refusal, root_reasons, root_refusal}
+use Rattle.sdt.specs.Valid.{wrong_signature, wrong_sum, cut_off, header_reasons, table_reasons, table_checked, root_reasons, root_checked}
 use Rattle.sdt.specs.Statements.{ValidSums, ValidRootSums, TableBytes, RootBytes, TableReasonsAscend, RootReasonsAscend}
 use Rattle.sdt.specs.declared.Wanted.{Wanted}
 use Rattle.sdt.specs.declared.Wanted.TheVariants.{Signature, Any}
 
--- What is found of the sum and of the length, as tests.
-sum_wrong : (t : List ℕ) → (sum (whole_of t) % 256 ≡ 0 → ⊥) → wrong_sum t ≡ true
-unfolding wrong_sum
-sum_wrong t h = differ_yes _ _ h
+-- The two last reasons to refuse a whole table, which `check_sum` and `check_length` test.
+abbrev pub sum_reason : List ℕ → List (Reason Refusal)
+sum_reason whole = (differ (sum whole % 256) 0 gives WrongChecksum) ∷ []
 
-sum_right : (t : List ℕ) → sum (whole_of t) % 256 ≡ 0 → wrong_sum t ≡ false
-unfolding wrong_sum
-sum_right t h = differ_no _ _ h
+abbrev pub length_reason : ℕ → ℕ → List (Reason Refusal)
+length_reason len least = (less len (max header_size least) gives TooShort) ∷ []
+
+-- What `get` hands out up to the stated length is the whole table.
+pub got_whole : (t table : List ℕ) (n : ℕ) → n ≡ length_of t → table ≡ slice_range t 0 n → table ≡ whole_of t
+got_whole t table n e h = h ∙ between_from_start t n ∙ ap (λ (k : ℕ). take k t) e
 
 cut : (t : List ℕ) → length t < length_of t → cut_off t ≡ true
 unfolding cut_off
@@ -31,97 +37,84 @@ whole : (t : List ℕ) → length_of t ≤ length t → cut_off t ≡ false
 unfolding cut_off
 whole t h = less_no _ _ h
 
--- The first reason of a list decides, or the rest does.
-decides : (test : Bool) (n : ℕ) (rest : List Reason) → first_number ((test gives n) ∷ rest) ≡ when test n (first_number rest)
-unfolding first_number
-decides test n rest = refl
-
-header_positive : (wanted : Wanted) (t : List ℕ) → T (positive (header_reasons wanted t))
-unfolding positive header_reasons
-header_positive wanted t = tt
-
 -- What the reader of a table finds, step by step, and what its answer then is.
 module _ (wanted : Wanted) (least : ℕ) (t : List ℕ) where
-  pub table_unmapped : length t < header_size → table_refusal wanted least t ≡ 12
-  unfolding table_refusal
-  table_unmapped h = hit _ 12 _ (less_yes (length t) header_size h)
+  pub table_unmapped : length t < header_size → table_checked wanted least t ≡ Err NoValidTable
+  unfolding table_checked
+  table_unmapped h = hit _ NoValidTable _ (less_yes (length t) header_size h)
 
   module _ (mapped : header_size ≤ length t) where
-    pub table_header : (n : ℕ) → first_number (header_reasons wanted t) ≡ n → (n ≡ 0 → ⊥) → table_refusal wanted least t ≡ n
-    unfolding table_refusal table_reasons
-    table_header n e h = pass _ 12 _ (less_no (length t) header_size mapped) (append_stops (header_reasons wanted t) _ n e h)
+    pub table_header : (r : Refusal) → checked (header_reasons wanted t) ≡ Err r → table_checked wanted least t ≡ Err r
+    unfolding table_checked table_reasons
+    table_header r e = pass _ NoValidTable _ (less_no (length t) header_size mapped) (append_stops (header_reasons wanted t) _ r e)
 
-    module _ (good : first_number (header_reasons wanted t) ≡ 0) where
-      pub table_cut : length t < length_of t → table_refusal wanted least t ≡ when (less (length_of t) (max header_size least)) 11 12
-      unfolding table_refusal table_reasons
-      table_cut h =
-          pass _ 12 _ (less_no (length t) header_size mapped)
-          (append_passes (header_reasons wanted t) _ (header_positive wanted t) good
-          ∙ pass _ 10 _ (ap (λ (b : Bool). not b && wrong_sum t) (cut t h))
-          (decides _ 11 _ ∙ ap (when (less (length_of t) (max header_size least)) 11) (hit (cut_off t) 12 [] (cut t h))))
+    module _ (good : checked (header_reasons wanted t) ≡ Ok tt) where
+      table_rest : {b : Bool} → cut_off t ≡ b
+          → table_checked wanted least t ≡ checked ((not b && wrong_sum t gives WrongChecksum) ∷ (length_reason (length_of t) least ++ (b gives NoValidTable) ∷ []))
+      unfolding table_checked table_reasons
+      table_rest e =
+          pass _ NoValidTable _ (less_no (length t) header_size mapped)
+          (append_passes (header_reasons wanted t) _ good
+          ∙ ap (λ (b : Bool). checked ((not b && wrong_sum t gives WrongChecksum) ∷ (length_reason (length_of t) least ++ (b gives NoValidTable) ∷ []))) e)
+
+      module _ (behind : length t < length_of t) where
+        pub cut_short : (r : Refusal) → checked (length_reason (length_of t) least) ≡ Err r → table_checked wanted least t ≡ Err r
+        unfolding checked when
+        cut_short r e = table_rest (cut t behind) ∙ append_stops (length_reason (length_of t) least) ((true gives NoValidTable) ∷ []) r e
+
+        pub cut_long : checked (length_reason (length_of t) least) ≡ Ok tt → table_checked wanted least t ≡ Err NoValidTable
+        unfolding checked when
+        cut_long e = table_rest (cut t behind) ∙ append_passes (length_reason (length_of t) least) ((true gives NoValidTable) ∷ []) e
 
       module _ (all : length_of t ≤ length t) where
-        pub table_sum : (sum (whole_of t) % 256 ≡ 0 → ⊥) → table_refusal wanted least t ≡ 10
-        unfolding table_refusal table_reasons
-        table_sum h =
-            pass _ 12 _ (less_no (length t) header_size mapped)
-            (append_passes (header_reasons wanted t) _ (header_positive wanted t) good
-            ∙ hit _ 10 _ (ap (λ (b : Bool). not b && wrong_sum t) (whole t all) ∙ sum_wrong t h))
+        table_whole : table_checked wanted least t ≡ checked (sum_reason (whole_of t) ++ length_reason (length_of t) least)
+        unfolding wrong_sum checked when
+        table_whole = table_rest (whole t all)
 
-        pub table_whole : sum (whole_of t) % 256 ≡ 0 → table_refusal wanted least t ≡ when (less (length_of t) (max header_size least)) 11 0
-        unfolding table_refusal table_reasons
-        table_whole h =
-            pass _ 12 _ (less_no (length t) header_size mapped)
-            (append_passes (header_reasons wanted t) _ (header_positive wanted t) good
-            ∙ pass _ 10 _ (ap (λ (b : Bool). not b && wrong_sum t) (whole t all) ∙ sum_right t h)
-            (decides _ 11 _ ∙ ap (when (less (length_of t) (max header_size least)) 11) (pass (cut_off t) 12 [] (whole t all) clear)))
+        pub table_sum : (r : Refusal) → checked (sum_reason (whole_of t)) ≡ Err r → table_checked wanted least t ≡ Err r
+        table_sum r e = table_whole ∙ append_stops (sum_reason (whole_of t)) _ r e
+
+        pub table_length : checked (sum_reason (whole_of t)) ≡ Ok tt → table_checked wanted least t ≡ checked (length_reason (length_of t) least)
+        table_length e = table_whole ∙ append_passes (sum_reason (whole_of t)) _ e
 
 -- The same of the root table.
 module _ (wanted : Wanted) (t : List ℕ) where
-  pub root_unmapped : length t < header_size → root_refusal wanted t ≡ 6
-  unfolding root_refusal root_reasons
-  root_unmapped h = hit _ 6 _ (less_yes (length t) header_size h)
+  pub root_unmapped : (length t < header_size) ⊎ (length t < length_of t) → root_checked wanted t ≡ Err RootNotMapped
+  unfolding root_checked root_reasons checked when
+  root_unmapped (inl h) = rw (less_yes (length t) header_size h)
+  root_unmapped (inr h) = go (less (length t) header_size) refl
+    where
+      go : (b : Bool) → less (length t) header_size ≡ b → root_checked wanted t ≡ Err RootNotMapped
+      go true e = rw e
+      go false e = rw (e, cut t h)
 
   module _ (mapped : header_size ≤ length t) where
-    pub root_cut : length t < length_of t → root_refusal wanted t ≡ 6
-    unfolding root_refusal root_reasons
-    root_cut h = pass _ 6 _ (less_no (length t) header_size mapped) (hit _ 6 _ (cut t h))
-
     module _ (all : length_of t ≤ length t) where
-      pub root_header : (n : ℕ) → first_number (header_reasons wanted t) ≡ n → (n ≡ 0 → ⊥) → root_refusal wanted t ≡ n
-      unfolding root_refusal root_reasons
-      root_header n e h =
-          pass _ 6 _ (less_no (length t) header_size mapped)
-          (pass _ 6 _ (whole t all) (append_stops (header_reasons wanted t) _ n e h))
+      root_rest : root_checked wanted t ≡ checked (header_reasons wanted t ++ (sum_reason (whole_of t) ++ length_reason (length_of t) header_size))
+      unfolding root_checked root_reasons wrong_sum
+      root_rest = pass _ RootNotMapped _ (less_no (length t) header_size mapped) (pass _ RootNotMapped _ (whole t all) refl)
 
-      module _ (good : first_number (header_reasons wanted t) ≡ 0) where
-        -- Past the header the sum and the length decide.
-        root_rest : {n : ℕ} → first_number ((wrong_sum t gives 10) ∷ (less (length_of t) header_size gives 11) ∷ []) ≡ n → root_refusal wanted t ≡ n
-        unfolding root_refusal root_reasons
-        root_rest e =
-            pass _ 6 _ (less_no (length t) header_size mapped)
-            (pass _ 6 _ (whole t all) (append_passes (header_reasons wanted t) _ (header_positive wanted t) good ∙ e))
+      pub root_header : (r : Refusal) → checked (header_reasons wanted t) ≡ Err r → root_checked wanted t ≡ Err r
+      root_header r e = root_rest ∙ append_stops (header_reasons wanted t) _ r e
 
-        pub root_sum : (sum (whole_of t) % 256 ≡ 0 → ⊥) → root_refusal wanted t ≡ 10
-        root_sum h = root_rest (hit _ 10 _ (sum_wrong t h))
+      module _ (good : checked (header_reasons wanted t) ≡ Ok tt) where
+        pub root_sum : (r : Refusal) → checked (sum_reason (whole_of t)) ≡ Err r → root_checked wanted t ≡ Err r
+        root_sum r e = root_rest ∙ append_passes (header_reasons wanted t) _ good ∙ append_stops (sum_reason (whole_of t)) _ r e
 
-        pub root_short : sum (whole_of t) % 256 ≡ 0 → length_of t < header_size → root_refusal wanted t ≡ 11
-        root_short h k = root_rest (pass _ 10 _ (sum_right t h) (hit _ 11 _ (less_yes (length_of t) header_size k)))
+        pub root_length : checked (sum_reason (whole_of t)) ≡ Ok tt → root_checked wanted t ≡ checked (length_reason (length_of t) header_size)
+        root_length e = root_rest ∙ append_passes (header_reasons wanted t) _ good ∙ append_passes (sum_reason (whole_of t)) _ e
 
-        pub root_valid : sum (whole_of t) % 256 ≡ 0 → header_size ≤ length_of t → root_refusal wanted t ≡ 0
-        root_valid h k = root_rest (pass _ 10 _ (sum_right t h) (pass _ 11 _ (less_no (length_of t) header_size k) clear))
-
--- Where no number applies, no test of the list holds.
+-- Where nothing is refused, no test of the list holds.
 pub valid_sums : ValidSums
-unfolding table_refusal table_reasons header_reasons cut_off wrong_sum
+unfolding table_checked table_reasons header_reasons cut_off wrong_sum
 valid_sums wanted least t e =
-    let c₁ = all_clear _ 11 _ e in
-    let c₂ = all_clear _ 6 _ c₁.others in
-    let c₃ = all_clear _ 7 _ c₂.others in
-    let c₄ = all_clear _ 8 _ c₃.others in
-    let c₅ = all_clear _ 9 _ c₄.others in
-    let c₆ = all_clear _ 10 _ c₅.others in
-    let c₇ = all_clear _ 11 _ c₆.others in
+    let c₁ = all_clear _ NoValidTable _ e in
+    let c₂ = all_clear _ WrongSignature _ c₁.others in
+    let c₃ = all_clear _ WrongOemId _ c₂.others in
+    let c₄ = all_clear _ WrongTableId _ c₃.others in
+    let c₅ = all_clear _ WrongChecksum _ c₄.others in
+    let c₆ = all_clear _ TooShort _ c₅.others in
+    let c₇ = all_clear _ NoValidTable _ c₆.others in
     let mapped = less_false (length t) (length_of t) c₇.fails in
     let enough = less_false (length_of t) (max header_size least) c₆.fails in
     record {
@@ -133,15 +126,15 @@ valid_sums wanted least t e =
     }
 
 pub valid_root_sums : ValidRootSums
-unfolding root_refusal root_reasons header_reasons cut_off wrong_sum
+unfolding root_checked root_reasons header_reasons cut_off wrong_sum
 valid_root_sums wanted t e =
-    let c₁ = all_clear _ 5 _ e in
-    let c₂ = all_clear _ 5 _ c₁.others in
-    let c₃ = all_clear _ 6 _ c₂.others in
-    let c₄ = all_clear _ 7 _ c₃.others in
-    let c₅ = all_clear _ 8 _ c₄.others in
-    let c₆ = all_clear _ 9 _ c₅.others in
-    let c₇ = all_clear _ 10 _ c₆.others in
+    let c₁ = all_clear _ RootNotMapped _ e in
+    let c₂ = all_clear _ RootNotMapped _ c₁.others in
+    let c₃ = all_clear _ WrongSignature _ c₂.others in
+    let c₄ = all_clear _ WrongOemId _ c₃.others in
+    let c₅ = all_clear _ WrongTableId _ c₄.others in
+    let c₆ = all_clear _ WrongChecksum _ c₅.others in
+    let c₇ = all_clear _ TooShort _ c₆.others in
     let header = less_false (length_of t) header_size c₇.fails in
     record {
       kind = c₃.fails;
@@ -153,11 +146,11 @@ valid_root_sums wanted t e =
 
 pub table_reasons_ascend : TableReasonsAscend
 unfolding table_reasons header_reasons ascends
-table_reasons_ascend wanted least t = ascending 7 (table_reasons wanted least t) tt
+table_reasons_ascend wanted least t = ascending number_of 7 (table_reasons wanted least t) tt
 
 pub root_reasons_ascend : RootReasonsAscend
 unfolding root_reasons header_reasons ascends
-root_reasons_ascend wanted t = ascending 6 (root_reasons wanted t) tt
+root_reasons_ascend wanted t = ascending number_of 6 (root_reasons wanted t) tt
 
 -- What the header says is the same where the headers agree.
 record SameHeader (wanted : Wanted) (t t' : List ℕ) : Type 0 where
@@ -199,14 +192,15 @@ same_sum t t' h e = ap (λ (l : List ℕ). differ (sum l % 256) 0) (e ∙ ap (λ
 
 -- A wrong signature is answered before anything behind the header is looked at.
 wrong_kind : (wanted : Wanted) (least : ℕ) (t : List ℕ) → wrong_signature wanted t ≡ true
-    → table_refusal wanted least t ≡ when (less (length t) header_size) 12 7
-unfolding table_refusal table_reasons header_reasons
-wrong_kind wanted least t e = decides _ 12 _ ∙ ap (when (less (length t) header_size) 12) (hit _ 7 _ e)
+    → table_checked wanted least t ≡ when (less (length t) header_size) (Err NoValidTable) (Err WrongSignature)
+unfolding table_checked table_reasons header_reasons checked when
+wrong_kind wanted least t e =
+    rw e
 
 -- Past the signature the whole table counts.
 right_kind : (wanted : Wanted) (least : ℕ) (t t' : List ℕ) → length t ≡ length t' → SameHeader wanted t t'
-    → whole_of t ≡ take (length_of t) t' → table_refusal wanted least t ≡ table_refusal wanted least t'
-unfolding table_refusal table_reasons header_reasons
+    → whole_of t ≡ take (length_of t) t' → table_checked wanted least t ≡ table_checked wanted least t'
+unfolding table_checked table_reasons header_reasons
 right_kind wanted least t t' l same w =
     let cuts = same_cut t t' l same.len in
     let sums = same_sum t t' same.len w in
@@ -218,15 +212,15 @@ table_bytes wanted least t t' l e w = go (wrong_signature wanted t) refl
     same : SameHeader wanted t t'
     same = same_header wanted t t' e
 
-    go : (b : Bool) → wrong_signature wanted t ≡ b → table_refusal wanted least t ≡ table_refusal wanted least t'
+    go : (b : Bool) → wrong_signature wanted t ≡ b → table_checked wanted least t ≡ table_checked wanted least t'
     go true q =
         wrong_kind wanted least t q
-        ∙ ap (λ (n : ℕ). when (less n header_size) 12 7) l
+        ∙ ap (λ (n : ℕ). when (less n header_size) (Err NoValidTable) (Err WrongSignature)) l
         ∙ sym (wrong_kind wanted least t' (sym same.kind ∙ q))
     go false q = right_kind wanted least t t' l same (w q)
 
 pub root_bytes : RootBytes
-unfolding root_refusal root_reasons header_reasons
+unfolding root_checked root_reasons header_reasons
 root_bytes wanted t t' l e w =
     let same = same_header wanted t t' e in
     let cuts = same_cut t t' l same.len in

@@ -1,8 +1,9 @@
--- When a table is valid for whoever asks, and the number that refuses it (docs/TABLES.md, "Tables" and "Answers").
-use Rattle.std.specs.Prelude.{ℕ, ◌%◌, max, List, [], ◌∷◌, ◌++◌, Bool, not, ◌&&◌, length}
-use Rattle.field.specs.First.{less, differ, Reason, ◌gives◌, first_number}
+-- When a table is valid for whoever asks, and what refuses it (docs/TABLES.md, "Tables" and "Answers").
+use Rattle.std.specs.Prelude.{ℕ, ◌%◌, max, List, [], ◌∷◌, ◌++◌, Bool, not, ◌&&◌, length, sum, Result}
+use Rattle.refusal.specs.declared.Refusal.{Refusal}
+use Rattle.refusal.specs.declared.Refusal.TheVariants.{RootNotMapped, WrongSignature, WrongOemId, WrongTableId, WrongChecksum, TooShort, NoValidTable}
+use Rattle.field.specs.First.{less, differ, Reason, ◌gives◌, checked}
 use Rattle.field.specs.Part.{part}
-use Rattle.field.specs.Sum.{sum}
 use Rattle.field.specs.Text.{text}
 use Rattle.sdt.specs.Header.{header_size, signature_of, length_of, maker_of, table_id_of, whole_of}
 use Rattle.sdt.specs.declared.Wanted.{Wanted}
@@ -21,35 +22,35 @@ wrong_sum t = differ (sum (whole_of t) % 256) 0
 unfoldable pub cut_off : List ℕ → Bool
 cut_off t = less (length t) (length_of t)
 
-unfoldable pub header_reasons : Wanted → List ℕ → List Reason
+unfoldable pub header_reasons : Wanted → List ℕ → List (Reason Refusal)
 header_reasons wanted t =
-    (wrong_signature wanted t gives 7)
-    ∷ (not (text (maker_of t)) gives 8)
-    ∷ (not (text (table_id_of t)) gives 9)
+    (wrong_signature wanted t gives WrongSignature)
+    ∷ (not (text (maker_of t)) gives WrongOemId)
+    ∷ (not (text (table_id_of t)) gives WrongTableId)
     ∷ []
 
 -- A table at an address. Without its header nothing can be said of it. A sum over bytes that are not mapped is not wrong.
-unfoldable pub table_reasons : Wanted → ℕ → List ℕ → List Reason
+unfoldable pub table_reasons : Wanted → ℕ → List ℕ → List (Reason Refusal)
 table_reasons wanted least t =
     header_reasons wanted t
-    ++ ((not (cut_off t) && wrong_sum t gives 10)
-    ∷ (less (length_of t) (max header_size least) gives 11)
-    ∷ (cut_off t gives 12)
+    ++ ((not (cut_off t) && wrong_sum t gives WrongChecksum)
+    ∷ (less (length_of t) (max header_size least) gives TooShort)
+    ∷ (cut_off t gives NoValidTable)
     ∷ [])
 
--- 0 where the table is valid for the signature wanted and at least so many bytes long, else the number that refuses it
-unfoldable pub table_refusal : Wanted → ℕ → List ℕ → ℕ
-table_refusal wanted least t = first_number ((less (length t) header_size gives 12) ∷ table_reasons wanted least t)
+-- `Ok` where the table is valid for the signature wanted and at least so many bytes long, else what refuses it
+unfoldable pub table_checked : Wanted → ℕ → List ℕ → Result (Unit {0}) Refusal
+table_checked wanted least t = checked ((less (length t) header_size gives NoValidTable) ∷ table_reasons wanted least t)
 
 -- The root table: the same, but that it has to be mapped over its whole length comes first.
-unfoldable pub root_reasons : Wanted → List ℕ → List Reason
+unfoldable pub root_reasons : Wanted → List ℕ → List (Reason Refusal)
 root_reasons wanted t =
-    (less (length t) header_size gives 6)
-    ∷ (cut_off t gives 6)
+    (less (length t) header_size gives RootNotMapped)
+    ∷ (cut_off t gives RootNotMapped)
     ∷ header_reasons wanted t
-    ++ ((wrong_sum t gives 10)
-    ∷ (less (length_of t) header_size gives 11)
+    ++ ((wrong_sum t gives WrongChecksum)
+    ∷ (less (length_of t) header_size gives TooShort)
     ∷ [])
 
-unfoldable pub root_refusal : Wanted → List ℕ → ℕ
-root_refusal wanted t = first_number (root_reasons wanted t)
+unfoldable pub root_checked : Wanted → List ℕ → Result (Unit {0}) Refusal
+root_checked wanted t = checked (root_reasons wanted t)

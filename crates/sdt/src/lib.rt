@@ -1,30 +1,18 @@
-// The header that all tables begin with: whether the table at the start of a view is valid, or the number that refuses it.
+// The header that all tables begin with: whether the table at the start of a view is valid, or what refuses it.
 // A view is the slice from the table's start to the end of what is mapped there.
 #![tactic(auto)]
 
-ghost use Rattle.std.specs.Prelude.{◌≡◌, ◌≤◌, max, length};
-ghost use Rattle.field.specs.First.{less, when, first_number};
-ghost use Rattle.sdt.specs.Header.{header_size, length_of};
-ghost use Rattle.sdt.specs.Valid.{wrong_signature, header_reasons, table_refusal, root_refusal};
+ghost use Rattle.std.specs.Prelude.{◌≡◌, ◌≤◌, ◌<◌, ◌%◌, max, ◌⊎◌, [], ◌∷◌, length, sum, MatchOption};
+ghost use Rattle.refusal.specs.declared.Refusal.TheVariants.{WrongChecksum, TooShort};
+ghost use Rattle.field.specs.First.{less, differ, ◌gives◌, checked};
+ghost use Rattle.sdt.specs.Header.{header_size, length_of, whole_of};
+ghost use Rattle.sdt.specs.Valid.{wrong_signature, header_reasons, table_checked, root_checked};
+
+use refusal::Refusal;
 
 pub const HEADER_SIZE: usize = 36;
 
-// The numbers of the answers.
-pub const ROOT_NOT_MAPPED: u32 = 6;
-
-pub const WRONG_SIGNATURE: u32 = 7;
-
-pub const WRONG_OEM_ID: u32 = 8;
-
-pub const WRONG_TABLE_ID: u32 = 9;
-
-pub const WRONG_CHECKSUM: u32 = 10;
-
-pub const TOO_SHORT: u32 = 11;
-
-pub const NO_VALID_TABLE: u32 = 12;
-
-// The signature that whoever asks wants, or any.
+// The signature that whoever asks wants, or any. It is no Option: at None a reader would think that nothing is wanted.
 #[derive(Clone, Copy)]
 pub enum Wanted {
     Signature(u32),
@@ -41,80 +29,86 @@ fn has_wrong_signature(view: &[u8], wanted: Wanted) -> bool
     }
 }
 
-// The header's own faults: 7, 8, 9, or 0.
-fn header_refusal(view: &[u8], wanted: Wanted) -> u32
+// The header's own faults.
+fn check_header(view: &[u8], wanted: Wanted) -> Result<(), Refusal>
     requires { header_size ≤ length view.now }
-    ensures { result ≡ first_number (header_reasons wanted view.now) }
+    ensures { result ≡ checked (header_reasons wanted view.now) }
 {
     if has_wrong_signature(view, wanted) {
-        return WRONG_SIGNATURE;
+        return Err(Refusal::WrongSignature);
     }
     if !field::is_text(&view[10..16]) {
-        return WRONG_OEM_ID;
+        return Err(Refusal::WrongOemId);
     }
     if !field::is_text(&view[16..24]) {
-        return WRONG_TABLE_ID;
+        return Err(Refusal::WrongTableId);
     }
-    0
+    Ok(())
 }
 
-// Whether the stated length is below the header's size or below what whoever asks needs; else the other number.
-fn length_refusal(len: u32, least: u32, other: u32) -> u32
-    ensures { result ≡ when (less len (max header_size least)) 11 other }
+// Whether the bytes of a whole table sum to 0.
+fn check_sum(table: &[u8]) -> Result<(), Refusal>
+    ensures { result ≡ checked ((differ (sum table.now % 256) 0 gives WrongChecksum) ∷ []) }
 {
-    if len < 36 {
-        return TOO_SHORT;
+    if field::sum(table) != 0 {
+        return Err(Refusal::WrongChecksum);
     }
-    if len < least {
-        return TOO_SHORT;
-    }
-    other
+    Ok(())
 }
 
-// The table at the start of the view, for whoever wants this signature and at least so many bytes: valid, 0, or why not.
-pub fn table_refusal(view: &[u8], wanted: Wanted, least: u32) -> u32
-    ensures { result ≡ table_refusal wanted least view.now }
+// Whether the stated length is at least the header's size and what whoever asks needs.
+fn check_length(len: u32, least: u32) -> Result<(), Refusal>
+    ensures { result ≡ checked ((less len (max header_size least) gives TooShort) ∷ []) }
 {
-    if view.len() < HEADER_SIZE {
-        return NO_VALID_TABLE;
+    if len < least.max(HEADER_SIZE as u32) {
+        return Err(Refusal::TooShort);
     }
-    let header = header_refusal(view, wanted);
-    if header != 0 {
-        return header;
-    }
-    let stated = field::u32_at(view, 4);
-    let len = stated as usize;
-    if view.len() < len {
-        return length_refusal(stated, least, NO_VALID_TABLE);
-    }
-    if field::sum(&view[..len]) != 0 {
-        return WRONG_CHECKSUM;
-    }
-    length_refusal(stated, least, 0)
+    Ok(())
 }
 
-// The root table at the start of the view: valid, 0, or why not. It has to be mapped over its whole length first of all.
-pub fn root_refusal(view: &[u8], wanted: Wanted) -> u32
-    ensures { result ≡ root_refusal wanted view.now }
+// The table at the start of the view, for whoever wants this signature and at least so many bytes: valid, or why not.
+pub fn check_table(view: &[u8], wanted: Wanted, least: u32) -> Result<(), Refusal>
+    ensures { result ≡ table_checked wanted least view.now }
 {
     if view.len() < HEADER_SIZE {
-        return ROOT_NOT_MAPPED;
+        return Err(Refusal::NoValidTable);
     }
-    let len = field::u32_at(view, 4) as usize;
-    if view.len() < len {
-        return ROOT_NOT_MAPPED;
+    check_header(view, wanted)?;
+    let stated = stated_length(view);
+    match view.get(..stated as usize) {
+        Some(table) => {
+            check_sum(table)?;
+            check_length(stated, least)
+        }
+        None => {
+            check_length(stated, least)?;
+            Err(Refusal::NoValidTable)
+        }
     }
-    let header = header_refusal(view, wanted);
-    if header != 0 {
-        return header;
+}
+
+// The bytes of the table at the start of the view, where it is mapped over its whole length.
+fn mapped_table(view: &[u8]) -> Option<&[u8]>
+    ensures { MatchOption result
+        ((length view.now < header_size) ⊎ (length view.now < length_of view.now))
+        (λ table. (header_size ≤ length view.now) × (length_of view.now ≤ length view.now) × (table.now ≡ whole_of view.now)) }
+{
+    if view.len() < HEADER_SIZE {
+        return None;
     }
-    if field::sum(&view[..len]) != 0 {
-        return WRONG_CHECKSUM;
-    }
-    if len < HEADER_SIZE {
-        return TOO_SHORT;
-    }
-    0
+    view.get(..stated_length(view) as usize)
+}
+
+// The root table at the start of the view: valid, or why not. It has to be mapped over its whole length first of all.
+pub fn check_root(view: &[u8], wanted: Wanted) -> Result<(), Refusal>
+    ensures { result ≡ root_checked wanted view.now }
+{
+    let Some(table) = mapped_table(view) else {
+        return Err(Refusal::RootNotMapped);
+    };
+    check_header(view, wanted)?;
+    check_sum(table)?;
+    check_length(stated_length(view), HEADER_SIZE as u32)
 }
 
 // The length that the table states.
