@@ -1,20 +1,24 @@
 -- Laws about what is found: every table that is answered is good, and it is the n-th valid one of those listed.
-use Rattle.std.proofs.Common.{ℕ, zero, suc, ◌%◌, ◌≤◌, ◌≡◌, refl, ap, sym, ◌∙◌, subst, List, Bool, true, false, not, arith, length, take}
-use Rattle.field.specs.First.{differ, when}
+use Rattle.std.proofs.Common.{ℕ, ◌+◌, ◌%◌, ◌≤◌, ◌≡◌, refl, ap, sym, ◌∙◌, subst, List, Bool, true, false, not, arith, length, take, sum}
+use Rattle.std.proofs.lemmas.List.{length-take, take_min}
+use Rattle.std.specs.Prelude.{Option, Some, None, Result, Ok, Err}
+use Rattle.std.specs.Option.{option_map, ok_or}
+use Rattle.field.specs.First.{differ}
 use Rattle.field.specs.Number.{number}
 use Rattle.field.specs.Part.{part}
-use Rattle.field.specs.Sum.{sum}
 use Rattle.field.specs.Text.{text}
-use Rattle.field.specs.Choice.{Choice, nth_valid, Nth}
-use Rattle.field.specs.Choice.Choice.{nothing, chosen}
+use Rattle.field.specs.Choice.{nth_valid, Nth}
+use Rattle.field.proofs.FirstLaws.{err_not_ok}
 use Rattle.field.proofs.NumberLaws.{number_take}
 use Rattle.field.proofs.PartLaws.{part_take, part_of_take}
 use Rattle.field.proofs.ChoiceLaws.{chosen_is_nth, nothing_means_few}
+use Rattle.refusal.specs.declared.Refusal.{Refusal}
+use Rattle.refusal.specs.declared.Refusal.TheVariants.{WrongRanges, NoValidTable}
 use Rattle.memory.specs.Ranges.{ranges_of, right}
 use Rattle.memory.specs.Places.{place_of, view_of}
 use Rattle.memory.specs.declared.Place.{Place}
-use Rattle.memory.specs.declared.Place.TheVariants.{At, Unmapped}
 use Rattle.memory.proofs.PlaceLaws.{inside_the_slice, inside_one_range, view_at, view_none, view_room}
+use Rattle.memory.proofs.AskedLaws.{asked_right, asked_wrong}
 use Rattle.sdt.specs.Header.{header_size, length_of, whole_of}
 use Rattle.sdt.specs.Valid.{wrong_signature}
 use Rattle.sdt.specs.Statements.{ValidTable}
@@ -22,13 +26,12 @@ use Rattle.sdt.specs.declared.Wanted.{Wanted}
 use Rattle.sdt.specs.declared.Wanted.TheVariants.{Signature, Any}
 use Rattle.sdt.proofs.ValidLaws.{valid_sums}
 use Rattle.tables.specs.Root.{signature_of, offset_of, root_of, listed}
-use Rattle.tables.specs.Tables.{table_in, refusal_at, answered, table_at, found, nth_in, nth_table}
+use Rattle.tables.specs.Tables.{table_in, checked_at, valid_table, table_at, nth_listed, nth_table}
 use Rattle.tables.specs.Statements.{GoodTable, FoundIsGood, TableAtIsGood, RootIsGood, FoundIsNth, NotFoundMeansFew}
-use Rattle.tables.specs.declared.Root.{Root}
 use Rattle.tables.specs.declared.RootTable.{RootTable}
 use Rattle.tables.specs.declared.Table.{Table}
-use Rattle.tables.specs.declared.Found.{Found}
-use Rattle.tables.proofs.EntryLaws.{rooted, nth_of_table}
+use Rattle.tables.proofs.RootLaws.{Led, led, ok_same, rooted}
+use Rattle.tables.proofs.TableLaws.{nth_of_table}
 
 -- The signature stands in the first bytes, so that of the table alone is that of all that is mapped.
 kind_of_whole : (wanted : Wanted) (k : ℕ) (v : List ℕ) → 4 ≤ k → wrong_signature wanted (take k v) ≡ wrong_signature wanted v
@@ -46,19 +49,19 @@ good_at image words wanted least p ranged valid = go (place_of (ranges_of words)
     v : List ℕ
     v = view_of image words p
 
-    go : (place : Place) → place_of (ranges_of words) p ≡ place
+    go : (place : Option Place) → place_of (ranges_of words) p ≡ place
         → GoodTable image words wanted least (record { address = p; at = offset_of place; len = length_of (view_of image words p) })
-    go (At offset room) q =
-        let fits : length_of v ≤ room = omega (arith, valid.mapped, view_room image words p offset room ranged q) in
-        let bytes : part image offset (length_of v) ≡ whole_of v =
-        sym (part_take image offset room (length_of v) fits) ∙ ap (take (length_of v)) (sym (view_at image words p offset room q)) in
+    go (Some place) q =
+        let fits : length_of v ≤ place.room = omega (arith, valid.mapped, view_room image words p place ranged q) in
+        let bytes : part image place.offset (length_of v) ≡ whole_of v =
+        sym (part_take image place.offset place.room (length_of v) fits) ∙ ap (take (length_of v)) (sym (view_at image words p place q)) in
         record {
           ranged = ranged;
-          room = room;
+          room = place.room;
           place = q;
-          held = inside_one_range words p offset room q;
+          held = inside_one_range words p place q;
           fits = fits;
-          inside = omega (arith, inside_the_slice (length image) words p offset room ranged q);
+          inside = omega (arith, inside_the_slice (length image) words p place ranged q);
           bytes = bytes;
           stated = ap (λ (l : List ℕ). number l 4 4) bytes ∙ number_take 4 (length_of v) v 4 (omega (arith, valid.header));
           header = valid.header;
@@ -66,36 +69,38 @@ good_at image words wanted least p ranged valid = go (place_of (ranges_of words)
           kind = ap (wrong_signature wanted) bytes ∙ kind_of_whole wanted (length_of v) v (omega (arith, valid.header)) ∙ valid.kind;
           sums = ap (λ (l : List ℕ). sum l % 256) bytes ∙ valid.sums;
         }
-    go Unmapped q = absurd (omega (arith, valid.mapped, valid.header, ap length (view_none image words p q)))
+    go None q = absurd (omega (arith, valid.mapped, valid.header, ap length (view_none image words p q)))
 
--- The same of what is said of a table at an address that nothing refuses.
+-- The same of a table that nothing refuses.
 good_in : (image words : List ℕ) (wanted : Wanted) (least p : ℕ) → right (length image) words ≡ true
-    → refusal_at image words wanted least p ≡ 0 → GoodTable image words wanted least (table_in image words p)
-unfolding table_in refusal_at
+    → checked_at image words wanted least p ≡ Ok tt → GoodTable image words wanted least (table_in image words p)
+unfolding table_in checked_at
 good_in image words wanted least p ranged e = good_at image words wanted least p ranged (valid_sums wanted least (view_of image words p) e)
 
 -- Where a table is found there is a root table, and what is answered is the table at the chosen address of those listed.
 record FoundFrom (image words : List ℕ) (rsdp : ℕ) (wanted : Wanted) (least n : ℕ) (table : Table) : Type 0 where
   pub root : RootTable
-  pub rooted : root_of image words rsdp ≡ Root.Table root
+  pub rooted : root_of image words rsdp ≡ Ok root
   pub address : ℕ
-  pub nth : Nth (refusal_at image words wanted least) n (listed image words root) address
+  pub nth : Nth (checked_at image words wanted least) n (listed image words root) address
   pub told : table_in image words address ≡ table
 
 found_from : (image words : List ℕ) (rsdp : ℕ) (wanted : Wanted) (least n : ℕ) (table : Table)
-    → nth_table image words rsdp wanted least n ≡ Found.Table table → FoundFrom image words rsdp wanted least n table
-unfolding nth_table nth_in found
-found_from image words rsdp wanted least n table e = from (root_of image words rsdp) refl e
+    → nth_table image words rsdp wanted least n ≡ Ok table → FoundFrom image words rsdp wanted least n table
+unfolding nth_table nth_listed
+found_from image words rsdp wanted least n table e = choose (nth_valid check n (listed image words root.value)) refl root.leads
   where
-    choose : (root : RootTable) → root_of image words rsdp ≡ Root.Table root → (c : Choice) → nth_valid (refusal_at image words wanted least) n (listed image words root) ≡ c
-        → found image words c ≡ Found.Table table → FoundFrom image words rsdp wanted least n table
-    choose root q nothing e same = absurd (let z : ◌≡◌ {A = ℕ} 0 1 = cc in omega arith)
-    choose root q (chosen p) e same =
-        record { root = root; rooted = q; address = p; nth = chosen_is_nth (refusal_at image words wanted least) n (listed image words root) p e; told = cc }
+    check : ℕ → Result (Unit {0}) Refusal
+    check = checked_at image words wanted least
 
-    from : (r : Root) → root_of image words rsdp ≡ r → nth_in image words wanted least n r ≡ Found.Table table → FoundFrom image words rsdp wanted least n table
-    from (Root.Table root) q same = choose root q (nth_valid (refusal_at image words wanted least) n (listed image words root)) refl same
-    from (Root.Refused k) q same = absurd (let z : ◌≡◌ {A = ℕ} 0 1 = cc in omega arith)
+    root : Led (root_of image words rsdp) (λ r. ok_or (option_map (table_in image words) (nth_valid check n (listed image words r))) NoValidTable) table
+    root = led _ _ table e
+
+    choose : (c : Option ℕ) → nth_valid check n (listed image words root.value) ≡ c → ok_or (option_map (table_in image words) c) NoValidTable ≡ Ok table
+        → FoundFrom image words rsdp wanted least n table
+    choose None q same = err_not_ok table NoValidTable same
+    choose (Some p) q same =
+        record { root = root.value; rooted = root.was; address = p; nth = chosen_is_nth Refusal check n (listed image words root.value) p q; told = ok_same _ table same }
 
 -- The choice is the n-th valid one of the list, and the answer tells its address.
 pub found_is_nth : FoundIsNth
@@ -105,7 +110,7 @@ found_is_nth image words rsdp wanted least n table e =
     record {
       root = f.root;
       rooted = f.rooted;
-      nth = subst (λ (t : Table). Nth (refusal_at image words wanted least) n (listed image words f.root) t.address) f.told f.nth;
+      nth = subst (λ (t : Table). Nth (checked_at image words wanted least) n (listed image words f.root) t.address) f.told f.nth;
     }
 
 -- The chosen table is valid, and the list of ranges is right where there is a root table.
@@ -115,28 +120,31 @@ found_is_good image words rsdp wanted least n table e =
     subst (GoodTable image words wanted least) f.told
     (good_in image words wanted least f.address (rooted image words rsdp f.root f.rooted).ranged f.nth.valid)
 
--- The only refusal of a choice is 12, and it means that nothing was chosen.
-found_none : (image words : List ℕ) (c : Choice) (number : ℕ) → found image words c ≡ Found.Refused number → (number ≡ 12) × (c ≡ nothing)
-unfolding found
-found_none image words nothing number e = (cc, refl)
-found_none image words (chosen p) number e = absurd (let z : ◌≡◌ {A = ℕ} 0 1 = cc in omega arith)
+-- The only refusal of a choice is that no table is valid, and it means that nothing was chosen.
+not_listed : {T : Type 0} (told : ℕ → T) (c : Option ℕ) (refusal : Refusal) → ok_or (option_map told c) NoValidTable ≡ Err refusal
+    → (refusal ≡ NoValidTable) × (c ≡ None)
+not_listed told None refusal e = (cc, refl)
+not_listed told (Some p) refusal e = err_not_ok (told p) refusal (sym e)
 
 -- Nothing is chosen only where not more than n are valid.
 pub not_found_means_few : NotFoundMeansFew
-not_found_means_few image words rsdp wanted least n root number e refused =
-    let none = found_none image words _ number (sym (nth_of_table image words rsdp wanted least n root e) ∙ refused) in
-    (none.0, nothing_means_few (refusal_at image words wanted least) n (listed image words root) none.1)
+unfolding nth_listed
+not_found_means_few image words rsdp wanted least n root refusal e refused =
+    let none =
+    not_listed (table_in image words) (nth_valid (checked_at image words wanted least) n (listed image words root)) refusal
+    (sym (nth_of_table image words rsdp wanted least n root e) ∙ refused) in
+    (none.0, nothing_means_few Refusal (checked_at image words wanted least) n (listed image words root) none.1)
 
 -- At an address a table is answered only where the list of ranges is right and nothing refuses it.
 pub table_at_is_good : TableAtIsGood
-unfolding table_at answered when
-table_at_is_good image words address wanted least table e = go (right (length image) words) refl (refusal_at image words wanted least address) refl e
+unfolding table_at valid_table
+table_at_is_good image words address wanted least table e = go (right (length image) words) refl
   where
-    go : (t : Bool) → right (length image) words ≡ t → (k : ℕ) → refusal_at image words wanted least address ≡ k
-        → when (not t) (Found.Refused 1) (answered k (table_in image words address)) ≡ Found.Table table → GoodTable image words wanted least table
-    go true ranged zero valid same = subst (GoodTable image words wanted least) (cc) (good_in image words wanted least address ranged valid)
-    go true ranged (suc k) valid same = absurd (let z : ◌≡◌ {A = ℕ} 0 1 = cc in omega arith)
-    go false ranged k valid same = absurd (let z : ◌≡◌ {A = ℕ} 0 1 = cc in omega arith)
+    go : (b : Bool) → right (length image) words ≡ b → GoodTable image words wanted least table
+    go false q = err_not_ok table WrongRanges (sym (asked_wrong image words _ q) ∙ e)
+    go true q =
+        let checked = led (checked_at image words wanted least address) _ table (sym (asked_right image words _ q) ∙ e) in
+        subst (GoodTable image words wanted least) (ok_same _ table checked.leads) (good_in image words wanted least address q checked.was)
 
 -- The root table is valid where it is answered, and stands where that says.
 pub root_is_good : RootIsGood
@@ -145,3 +153,33 @@ root_is_good image words rsdp root e =
     subst (GoodTable image words (Signature (signature_of root.kind)) header_size)
     (λ i. record { address = root.address; at = sym r.good.stands i; len = sym r.good.long i })
     (good_at image words _ header_size root.address r.ranged r.valid)
+
+-- The bytes of a table whose header is mapped, as many as it states or as are mapped, stand where its address does.
+pub record Stands (image words : List ℕ) (p at len : ℕ) : Type 0 where
+  pub inside : at + len ≤ length image
+  pub bytes : part image at len ≡ whole_of (view_of image words p)
+
+pub whole_stands : (image words : List ℕ) (p at len : ℕ) → right (length image) words ≡ true → header_size ≤ length (view_of image words p)
+    → at ≡ offset_of (place_of (ranges_of words) p) → len ≡ length (whole_of (view_of image words p)) → Stands image words p at len
+unfolding offset_of
+whole_stands image words p at len ranged mapped here long = go (place_of (ranges_of words) p) refl
+  where
+    v : List ℕ
+    v = view_of image words p
+
+    prefix : take len v ≡ whole_of v
+    prefix = ap (λ (n : ℕ). take n v) (long ∙ length-take (length_of v) v) ∙ take_min (length_of v) v
+
+    go : (place : Option Place) → place_of (ranges_of words) p ≡ place → Stands image words p at len
+    go None q = absurd (omega (arith, ap length (view_none image words p q)))
+    go (Some place) q =
+        let at_place : at ≡ place.offset = here ∙ ap offset_of q in
+        let fits : len ≤ place.room = omega (arith, length-take (length_of v) v, view_room image words p place ranged q) in
+        record {
+          inside = omega (arith, inside_the_slice (length image) words p place ranged q);
+          bytes =
+              ap (λ (i : ℕ). part image i len) at_place
+              ∙ sym (part_take image place.offset place.room len fits)
+              ∙ ap (take len) (sym (view_at image words p place q))
+              ∙ prefix;
+        }

@@ -1,6 +1,5 @@
 -- What a root table that was reported is: mapped whole, summing to 0 over its stated length, and said of it what it holds.
-use Rattle.std.specs.Prelude.{ℕ, ◌-◌, ◌/◌, ◌%◌, ◌≤◌, ◌≡◌, List, length}
-use Rattle.field.specs.Sum.{sum}
+use Rattle.std.specs.Prelude.{ℕ, ◌-◌, ◌/◌, ◌%◌, ◌≤◌, ◌≡◌, List, length, sum}
 use Rattle.memory.specs.Ranges.{ranges_of}
 use Rattle.memory.specs.Places.{place_of, view_of}
 use Rattle.sdt.specs.Header.{header_size, length_of, whole_of}

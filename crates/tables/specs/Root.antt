@@ -1,20 +1,17 @@
 -- The root table: ACPI 6.5, sections 5.2.7 "Root System Description Table" and 5.2.8 "Extended System Description Table".
-use Rattle.std.specs.Prelude.{ℕ, zero, suc, ◌+◌, ◌-◌, ◌/◌, List, [], ◌∷◌, length}
+use Rattle.std.specs.Prelude.{ℕ, zero, suc, ◌+◌, ◌-◌, ◌/◌, List, [], ◌∷◌, length, Option, Some, None, Result, Ok}
 use Rattle.field.specs.First.{differ, when}
 use Rattle.field.specs.Number.{number}
+use Rattle.field.specs.Then.{and_then}
+use Rattle.refusal.specs.declared.Refusal.{Refusal}
 use Rattle.memory.specs.Ranges.{ranges_of}
 use Rattle.memory.specs.Places.{place_of, view_of}
 use Rattle.memory.specs.declared.Place.{Place}
-use Rattle.memory.specs.declared.Place.TheVariants.{At, Unmapped}
 use Rattle.rsdp.specs.Asked.{root_pointer_at}
 use Rattle.rsdp.specs.declared.Rsdp.{Rsdp}
-use Rattle.rsdp.specs.declared.RootPointer.{RootPointer}
-use Rattle.rsdp.specs.declared.RootPointer.TheVariants.{Valid}
 use Rattle.sdt.specs.Header.{header_size, length_of, whole_of}
-use Rattle.sdt.specs.Valid.{root_refusal}
+use Rattle.sdt.specs.Valid.{root_checked}
 use Rattle.sdt.specs.declared.Wanted.TheVariants.{Signature}
-use Rattle.tables.specs.declared.Root.{Root}
-use Rattle.tables.specs.declared.Root.TheVariants.{Table, Refused}
 use Rattle.tables.specs.declared.RootTable.{RootTable}
 use Rattle.tables.specs.declared.RootKind.{RootKind}
 use Rattle.tables.specs.declared.RootKind.TheVariants.{Rsdt, Xsdt}
@@ -46,10 +43,14 @@ entries_from (suc n) size at t = number t at size ∷ entries_from n size (at + 
 unfoldable pub entries_of : RootKind → List ℕ → List ℕ
 entries_of kind t = entries_from ((length t - header_size) / size_of kind) (size_of kind) header_size t
 
+-- the same of the bytes behind the header alone
+unfoldable pub entries_in : RootKind → List ℕ → List ℕ
+entries_in kind bytes = entries_from (length bytes / size_of kind) (size_of kind) 0 bytes
+
 -- where an address stands in the slice
-unfoldable pub offset_of : Place → ℕ
-offset_of (At offset room) = offset
-offset_of Unmapped = 0
+unfoldable pub offset_of : Option Place → ℕ
+offset_of (Some place) = place.offset
+offset_of None = 0
 
 -- what is said of a root table that is valid: v is the view at its address
 unfoldable pub root_table_in : List ℕ → RootKind → ℕ → List ℕ → RootTable
@@ -63,22 +64,16 @@ root_table_in words kind address v =
       entries = (length_of v - header_size) / size_of kind;
     }
 
-unfoldable pub answered : ℕ → RootTable → Root
-answered zero table = Table table
-answered (suc n) table = Refused (suc n)
-
--- the root table of a kind at an address
-unfoldable pub root_at : List ℕ → List ℕ → RootKind → ℕ → Root
+-- the root table of a kind at an address, or what refuses it
+unfoldable pub root_at : List ℕ → List ℕ → RootKind → ℕ → Result RootTable Refusal
 root_at image words kind address =
-    answered (root_refusal (Signature (signature_of kind)) (view_of image words address)) (root_table_in words kind address (view_of image words address))
+    and_then (root_checked (Signature (signature_of kind)) (view_of image words address))
+    (λ _. Ok (root_table_in words kind address (view_of image words address)))
 
--- the root table that a root pointer leads to, or the root pointer's refusal
-unfoldable pub root_from : List ℕ → List ℕ → RootPointer → Root
-root_from image words (Valid pointer) = root_at image words (kind_of pointer) (address_of (kind_of pointer) pointer)
-root_from image words (RootPointer.Refused n) = Refused n
-
-unfoldable pub root_of : List ℕ → List ℕ → ℕ → Root
-root_of image words rsdp = root_from image words (root_pointer_at image words rsdp)
+-- the root table that the root pointer leads to, or the root pointer's refusal
+unfoldable pub root_of : List ℕ → List ℕ → ℕ → Result RootTable Refusal
+root_of image words rsdp =
+    and_then (root_pointer_at image words rsdp) (λ pointer. root_at image words (kind_of pointer) (address_of (kind_of pointer) pointer))
 
 -- the addresses that a root table lists
 unfoldable pub listed : List ℕ → List ℕ → RootTable → List ℕ

@@ -1,15 +1,22 @@
--- `nth_table` meets its contract: the root's refusal, or the n-th valid table that it lists.
-use Rattle.std.proofs.Common.{sym, ◌∙◌}
-use Rattle.tables.proofs.EntryLaws.{rooted, nth_of_table, nth_of_refused}
+-- `nth_table` meets its contract: a wrong list is refused, else the root's refusal, or the n-th valid table that it lists.
+use Rattle.std.proofs.Common.{rules}
+use Rattle.tables.proofs.TableLaws.{nth_wrong, nth_of_refused, nth_of_table}
 use Rattle.tables.proofs.nth_table.Goals as goal
 
-pub listed_table-requires : goal.listed_table-requires
-listed_table-requires c =
-    let r = rooted _ _ _ _ (sym c.root_table.ensures ∙ c.in-Table.is) in
-    record { right_ranges = r.ranged; good_root = r.good }
+pub returns-in_err-memory : goal.returns-in_err-memory
+returns-in_err-memory c =
+    let wrong = c.in_err-memory.ensures.wrong in
+    search (rules, nth_wrong)
 
-pub returns-in-Refused : goal.returns-in-Refused
-returns-in-Refused c = sym (nth_of_refused _ _ _ _ _ _ _ (sym c.root_table.ensures ∙ c.in-Refused.is))
+pub returns-in_err-entries : goal.returns-in_err-entries
+returns-in_err-entries c =
+    let lent = c.in_ok-memory.ensures.lent in
+    let refused = c.in_err-entries.ensures in
+    search (rules, nth_of_refused)
 
-pub returns-in-Table : goal.returns-in-Table
-returns-in-Table c = c.listed_table.ensures ∙ sym (nth_of_table _ _ _ _ _ _ _ (sym c.root_table.ensures ∙ c.in-Table.is))
+pub returns : goal.returns
+returns c =
+    let lent = c.in_ok-memory.ensures.lent in
+    let root = c.in_ok-entries.ensures in
+    let found = c.ok_or.ensures.value in
+    search (rules, nth_of_table)

@@ -1,15 +1,21 @@
--- `root_entry` meets its contract: the root's refusal, or its k-th entry.
-use Rattle.std.proofs.Common.{sym, ◌∙◌}
-use Rattle.tables.proofs.EntryLaws.{rooted, entry_of_table, entry_of_refused}
+-- `root_entry` meets its contract: a wrong list is refused, else the root's refusal, or its k-th entry.
+use Rattle.std.proofs.Common.{rules}
+use Rattle.tables.proofs.TableLaws.{entry_wrong, entry_of_refused, entry_of_table}
 use Rattle.tables.proofs.root_entry.Goals as goal
 
-pub listed_entry-requires : goal.listed_entry-requires
-listed_entry-requires c =
-    let r = rooted _ _ _ _ (sym c.root_table.ensures ∙ c.in-Table.is) in
-    record { right_ranges = r.ranged; good_root = r.good }
+pub returns-in_err-new : goal.returns-in_err-new
+returns-in_err-new c =
+    let wrong = c.in_err-new.ensures.wrong in
+    search (rules, entry_wrong)
 
-pub returns-in-Refused : goal.returns-in-Refused
-returns-in-Refused c = sym (entry_of_refused _ _ _ _ _ (sym c.root_table.ensures ∙ c.in-Refused.is))
+pub returns-in_err-root_entries : goal.returns-in_err-root_entries
+returns-in_err-root_entries c =
+    let lent = c.in_ok-new.ensures.lent in
+    let refused = c.in_err-root_entries.ensures in
+    search (rules, entry_of_refused)
 
-pub returns-in-Table : goal.returns-in-Table
-returns-in-Table c = c.listed_entry.ensures ∙ sym (entry_of_table _ _ _ _ _ (sym c.root_table.ensures ∙ c.in-Table.is))
+pub returns : goal.returns
+returns c =
+    let lent = c.in_ok-new.ensures.lent in
+    let root = c.in_ok-root_entries.ensures in
+    search (rules, entry_of_table)

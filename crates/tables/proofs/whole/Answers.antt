@@ -1,20 +1,23 @@
--- `whole` meets its contract: as many bytes as the table states, or all that are mapped.
-use Rattle.std.proofs.Common.{ap, sym, ◌∙◌, subst, arith, ℕ, ◌≤◌, List, length, take, take_all, length-take-le}
-use Rattle.sdt.specs.Header.{header_size, length_of, whole_of}
+-- `whole` meets its contract: the bytes stand where the table does.
+use Rattle.std.proofs.Common.{◌∙◌, ap, arith, ℕ, length, take, drop}
+use native.Mathlib.Nat.{add-sub_cancel_left}
+use Rattle.field.specs.Part.{part}
+use Rattle.tables.proofs.FoundLaws.{Stands, whole_stands}
 use Rattle.tables.proofs.whole.Goals as goal
+use Rattle.tables.proofs.whole.Goals.{After-whole_in-len}
 
-pub stated_length-len-requires : goal.stated_length-len-requires
-stated_length-len-requires c = subst (λ (l : List ℕ). header_size ≤ length l) (sym c.view-view.ensures) c.requires.mapped_header
+-- Where they stand, by what the two calls answered.
+stand : (c : After-whole_in-len) → Stands c.args.image.now c.args.ranges.now c.args.address c.offset_of-at.result (length c.whole_in-len.result.now)
+stand c = whole_stands _ _ _ _ _ c.requires.right_ranges c.requires.mapped_header c.offset_of-at.ensures (ap length c.whole_in-len.ensures)
 
-pub returns-then-view-len : goal.returns-then-view-len
-returns-then-view-len c =
-    let v = c.view-view.result.now in
-    sym (take_all (length_of v) v (omega arith)) ∙ ap (λ (l : List ℕ). whole_of l) c.view-view.ensures
+pub overflow_add-result : goal.overflow_add-result
+overflow_add-result c = omega (arith, (stand c).inside)
 
 pub slice_bounds-result-end : goal.slice_bounds-result-end
-slice_bounds-result-end c = sym (length-take-le _ c.view-view.result.now (omega arith))
+slice_bounds-result-end c = omega (arith, (stand c).inside)
 
 pub returns : goal.returns
+unfolding part
 returns c =
-    let v = c.view-view.result.now in
-    ap (λ (n : ℕ). take n v) c.stated_length-len.ensures ∙ ap (λ (l : List ℕ). whole_of l) c.view-view.ensures
+    ap (λ (n : ℕ). take n (drop c.offset_of-at.result c.args.image.now)) (add-sub_cancel_left c.offset_of-at.result (length c.whole_in-len.result.now))
+    ∙ (stand (goal.at.returns c).After-whole_in-len).bytes

@@ -1,5 +1,0 @@
--- `header` meets its contract: it asks `nth_table`.
-use Rattle.tables.proofs.header.Goals as goal
-
-pub returns : goal.returns
-returns c = c.nth_table.ensures
