@@ -111,16 +111,17 @@ pub fn is_right(image: &[u8], ranges: &[u64]) -> bool
 }
 
 // Memory as it is lent: the slice, with a list of ranges that is right for it. Every question about addresses is asked of it.
+// What is read of the slice may outlive the list.
 #[derive(Clone, Copy)]
-pub struct Memory<'a> {
+pub struct Memory<'a, 'r> {
     pub image: &'a [u8],
-    pub ranges: &'a [u64],
+    pub ranges: &'r [u64],
     pub ghost right_ranges: { right (length image.now) ranges.now ≡ true },
 }
 
-impl<'a> Memory<'a> {
+impl<'a, 'r> Memory<'a, 'r> {
     // The slice with its list of ranges, unless the list is wrong.
-    pub fn new(image: &'a [u8], ranges: &'a [u64]) -> Result<Memory<'a>, Refusal>
+    pub fn new(image: &'a [u8], ranges: &'r [u64]) -> Result<Memory<'a, 'r>, Refusal>
         ensures lent { IfOk result (λ memory. (memory.image.now ≡ image.now) × (memory.ranges.now ≡ ranges.now)) }
         ensures wrong { IfErr result (λ refusal. (refusal ≡ Refusal.WrongRanges) × (right (length image.now) ranges.now ≡ false)) }
     {

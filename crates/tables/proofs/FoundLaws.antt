@@ -1,6 +1,5 @@
 -- Laws about what is found: every table that is answered is good, and it is the n-th valid one of those listed.
-use Rattle.std.proofs.Common.{ℕ, ◌+◌, ◌%◌, ◌≤◌, ◌≡◌, refl, ap, sym, ◌∙◌, subst, List, Bool, true, false, not, arith, length, take, sum}
-use Rattle.std.proofs.lemmas.List.{length-take, take_min}
+use Rattle.std.proofs.Common.{ℕ, ◌%◌, ◌≤◌, ◌≡◌, refl, ap, sym, ◌∙◌, subst, List, Bool, true, false, not, arith, length, take, sum}
 use Rattle.std.specs.Prelude.{Option, Some, None, Result, Ok, Err}
 use Rattle.std.specs.Option.{option_map, ok_or}
 use Rattle.field.specs.First.{differ}
@@ -153,33 +152,3 @@ root_is_good image words rsdp root e =
     subst (GoodTable image words (Signature (signature_of root.kind)) header_size)
     (λ i. record { address = root.address; at = sym r.good.stands i; len = sym r.good.long i })
     (good_at image words _ header_size root.address r.ranged r.valid)
-
--- The bytes of a table whose header is mapped, as many as it states or as are mapped, stand where its address does.
-pub record Stands (image words : List ℕ) (p at len : ℕ) : Type 0 where
-  pub inside : at + len ≤ length image
-  pub bytes : part image at len ≡ whole_of (view_of image words p)
-
-pub whole_stands : (image words : List ℕ) (p at len : ℕ) → right (length image) words ≡ true → header_size ≤ length (view_of image words p)
-    → at ≡ offset_of (place_of (ranges_of words) p) → len ≡ length (whole_of (view_of image words p)) → Stands image words p at len
-unfolding offset_of
-whole_stands image words p at len ranged mapped here long = go (place_of (ranges_of words) p) refl
-  where
-    v : List ℕ
-    v = view_of image words p
-
-    prefix : take len v ≡ whole_of v
-    prefix = ap (λ (n : ℕ). take n v) (long ∙ length-take (length_of v) v) ∙ take_min (length_of v) v
-
-    go : (place : Option Place) → place_of (ranges_of words) p ≡ place → Stands image words p at len
-    go None q = absurd (omega (arith, ap length (view_none image words p q)))
-    go (Some place) q =
-        let at_place : at ≡ place.offset = here ∙ ap offset_of q in
-        let fits : len ≤ place.room = omega (arith, length-take (length_of v) v, view_room image words p place ranged q) in
-        record {
-          inside = omega (arith, inside_the_slice (length image) words p place ranged q);
-          bytes =
-              ap (λ (i : ℕ). part image i len) at_place
-              ∙ sym (part_take image place.offset place.room len fits)
-              ∙ ap (take len) (sym (view_at image words p place q))
-              ∙ prefix;
-        }

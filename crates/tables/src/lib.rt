@@ -118,7 +118,7 @@ fn offset_of(memory: Memory, p: u64) -> usize
 }
 
 // All bytes of the table at an address whose header is mapped, or as many of them as are.
-fn whole_in<'a>(memory: Memory<'a>, address: u64) -> &'a [u8]
+fn whole_in<'a>(memory: Memory<'a, '_>, address: u64) -> &'a [u8]
     requires { header_size ≤ length (view_of memory.image.now memory.ranges.now address) }
     ensures { result.now ≡ whole_of (view_of memory.entry.image.now memory.entry.ranges.now address) }
 {
@@ -154,7 +154,7 @@ fn root_in(memory: Memory, rsdp: u64) -> Result<RootTable, Refusal>
 }
 
 // The addresses that it lists.
-fn root_entries<'a>(memory: Memory<'a>, rsdp: u64) -> Result<Entries<'a>, Refusal>
+fn root_entries<'a>(memory: Memory<'a, '_>, rsdp: u64) -> Result<Entries<'a>, Refusal>
     ensures { MatchResult result
         (λ found. (root : RootTable)
         × (root_of memory.entry.image.now memory.entry.ranges.now rsdp ≡ Ok root)
@@ -259,14 +259,11 @@ pub fn header(image: &[u8], ranges: &[u64], rsdp: u64, n: u64) -> Result<Table, 
     nth_table(image, ranges, rsdp, Wanted::Any, 36, n)
 }
 
-// All bytes of the table at an address whose header is mapped, or as many of them as are. They outlive the list of ranges.
+// All bytes of the table at an address whose header is mapped, or as many of them as are.
 pub fn whole<'a>(image: &'a [u8], ranges: &[u64], address: u64) -> &'a [u8]
     requires right_ranges { right (length image.now) ranges.now ≡ true }
     requires mapped_header { header_size ≤ length (view_of image.now ranges.now address) }
     ensures { result.now ≡ whole_of (view_of image.now ranges.now address) }
 {
-    let memory = Memory { image, ranges };
-    let at = offset_of(memory, address);
-    let len = whole_in(memory, address).len();
-    &image[at..at + len]
+    whole_in(Memory { image, ranges }, address)
 }
