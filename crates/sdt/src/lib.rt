@@ -19,6 +19,7 @@ pub enum Wanted {
     Any,
 }
 
+#[tactic(auto, unfolding(crate::specs::Valid::wrong_signature, field::specs::First::differ, field::specs::Part::part))]
 fn has_wrong_signature(view: &[u8], wanted: Wanted) -> bool
     requires { header_size ≤ length view.now }
     ensures { result ≡ wrong_signature wanted view.now }
@@ -30,6 +31,7 @@ fn has_wrong_signature(view: &[u8], wanted: Wanted) -> bool
 }
 
 // The header's own faults.
+#[tactic(auto, unfolding(crate::specs::Valid::header_reasons, field::specs::First::checked, field::specs::First::when, field::specs::Part::part))]
 fn check_header(view: &[u8], wanted: Wanted) -> Result<(), Refusal>
     requires { header_size ≤ length view.now }
     ensures { result ≡ checked (header_reasons wanted view.now) }
@@ -47,6 +49,7 @@ fn check_header(view: &[u8], wanted: Wanted) -> Result<(), Refusal>
 }
 
 // Whether the bytes of a whole table sum to 0.
+#[tactic(auto, unfolding(field::specs::First::checked, field::specs::First::when, field::specs::First::differ))]
 fn check_sum(table: &[u8]) -> Result<(), Refusal>
     ensures { result ≡ checked ((differ (sum table.now % 256) 0 gives WrongChecksum) ∷ []) }
 {
@@ -57,6 +60,7 @@ fn check_sum(table: &[u8]) -> Result<(), Refusal>
 }
 
 // Whether the stated length is at least the header's size and what whoever asks needs.
+#[tactic(auto, unfolding(field::specs::First::checked, field::specs::First::when, field::specs::First::less))]
 fn check_length(len: u32, least: u32) -> Result<(), Refusal>
     ensures { result ≡ checked ((less len (max header_size least) gives TooShort) ∷ []) }
 {

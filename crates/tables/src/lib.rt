@@ -170,7 +170,8 @@ fn root_entries<'a>(memory: Memory<'a, '_>, rsdp: u64) -> Result<Entries<'a>, Re
     })
 }
 
-// The table at an address, if nothing refuses it.
+// The table at an address, if nothing refuses it. The signature and the length wanted stay two parameters, as in every
+// question from outside: a struct of both would be made there and taken apart here.
 fn valid_table(memory: Memory, p: u64, wanted: Wanted, least: u32) -> Result<Table, Refusal>
     ensures { result ≡ valid_table memory.entry.image.now memory.entry.ranges.now wanted least p }
 {
@@ -256,7 +257,7 @@ pub fn find_table(
 pub fn header(image: &[u8], ranges: &[u64], rsdp: u64, n: u64) -> Result<Table, Refusal>
     ensures { result ≡ nth_table image.now ranges.now rsdp Any header_size n }
 {
-    nth_table(image, ranges, rsdp, Wanted::Any, 36, n)
+    nth_table(image, ranges, rsdp, Wanted::Any, sdt::HEADER_SIZE as u32, n)
 }
 
 // All bytes of the table at an address whose header is mapped, or as many of them as are.
