@@ -1,2 +1,0 @@
--- Laws about answers and buffers.
-pub mod AnswerLaws
