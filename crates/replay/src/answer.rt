@@ -1,10 +1,11 @@
 // The ten questions about an image, asked of the proved functions, and the values of their answers as the stored file has them.
 use cases::case::{Case, Outcome, low};
 use cases::replay::Questions;
-use rsdp::{RootPointer, Rsdp, Search};
+use memory::Memory;
+use rsdp::Rsdp;
 use sdt::Wanted;
 use std::alloc::{AllocError, Global};
-use tables::{Entry, Found, Root, RootKind, RootTable, Table};
+use tables::{RootTable, Table};
 
 // The largest image has an area of the search and the word at 40e.
 const IMAGE_ROOM: usize = 0x2_0004;
@@ -45,35 +46,33 @@ fn ask(case: &Case) -> Option<Outcome> {
     }
     let stored = &case.stored;
     let outcome = match (case.id, case.arguments.as_slice()) {
-        (1, []) => stored.outcome(right(memory::is_right(image, ranges))),
+        (1, []) => stored.outcome(Memory::new(image, ranges).map(|_| [])),
         (2, [address]) => {
-            stored.outcome(pointer(rsdp::root_pointer_at(image, ranges, *address)).map(of_pointer))
+            stored.outcome(rsdp::root_pointer_at(image, ranges, *address).map(of_pointer))
         }
-        (3, []) => stored.outcome(search(rsdp::search_for_on_bios(image, ranges)).map(of_address)),
-        (4, [rsdp]) => stored.outcome(root(tables::root_table(image, ranges, *rsdp)).map(of_root)),
+        (3, []) => stored.outcome(rsdp::search_for_on_bios(image, ranges).map(of_address)),
+        (4, [rsdp]) => stored.outcome(tables::root_table(image, ranges, *rsdp).map(of_root)),
         (5, [rsdp, k]) => {
-            stored.outcome(entry(tables::root_entry(image, ranges, *rsdp, *k)).map(of_address))
+            stored.outcome(tables::root_entry(image, ranges, *rsdp, *k).map(of_address))
         }
         (6, [rsdp, signature, least]) => {
             let found = tables::find_table(image, ranges, *rsdp, low(*signature), low(*least));
-            stored.outcome(table(found).map(of_table))
+            stored.outcome(found.map(of_table))
         }
         (7, [rsdp, signature, least, n]) => {
             let wanted = Wanted::Signature(low(*signature));
             let found = tables::nth_table(image, ranges, *rsdp, wanted, low(*least), *n);
-            stored.outcome(table(found).map(of_table))
+            stored.outcome(found.map(of_table))
         }
-        (8, [rsdp, n]) => {
-            stored.outcome(table(tables::header(image, ranges, *rsdp, *n)).map(of_table))
-        }
+        (8, [rsdp, n]) => { stored.outcome(tables::header(image, ranges, *rsdp, *n).map(of_table)) }
         (9, [address, signature, least]) => {
             let wanted = Wanted::Signature(low(*signature));
             let found = tables::table_at(image, ranges, *address, wanted, low(*least));
-            stored.outcome(table(found).map(of_table))
+            stored.outcome(found.map(of_table))
         }
         (10, [address]) => {
             let found = tables::table_at(image, ranges, *address, Wanted::Any, 36);
-            stored.outcome(table(found).map(of_table))
+            stored.outcome(found.map(of_table))
         }
         _ => return None,
     };
@@ -96,12 +95,8 @@ fn of_address(address: u64) -> [u64; 1] {
 }
 
 fn of_root(t: RootTable) -> [u64; 6] {
-    let kind = match t.kind {
-        RootKind::Rsdt => 0,
-        RootKind::Xsdt => 1,
-    };
     [
-        kind,
+        t.kind as u64,
         t.address,
         t.at as u64,
         t.len as u64,
@@ -112,46 +107,4 @@ fn of_root(t: RootTable) -> [u64; 6] {
 
 fn of_table(t: Table) -> [u64; 3] {
     [t.address, t.at as u64, t.len as u64]
-}
-
-// The answers as results.
-
-// A list of ranges that is not right is refused by the number 1.
-fn right(is_right: bool) -> Result<[u64; 0], u32> {
-    if is_right { Ok([]) } else { Err(1) }
-}
-
-fn pointer(answer: RootPointer) -> Result<Rsdp, u32> {
-    match answer {
-        RootPointer::Valid(p) => Ok(p),
-        RootPointer::Refused(n) => Err(n),
-    }
-}
-
-fn search(answer: Search) -> Result<u64, u32> {
-    match answer {
-        Search::At(address) => Ok(address),
-        Search::Refused(n) => Err(n),
-    }
-}
-
-fn root(answer: Root) -> Result<RootTable, u32> {
-    match answer {
-        Root::Table(t) => Ok(t),
-        Root::Refused(n) => Err(n),
-    }
-}
-
-fn entry(answer: Entry) -> Result<u64, u32> {
-    match answer {
-        Entry::At(address) => Ok(address),
-        Entry::Refused(n) => Err(n),
-    }
-}
-
-fn table(answer: Found) -> Result<Table, u32> {
-    match answer {
-        Found::Table(t) => Ok(t),
-        Found::Refused(n) => Err(n),
-    }
 }

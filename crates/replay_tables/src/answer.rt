@@ -1,13 +1,13 @@
 // The questions about a table, asked of the proved functions, and the values of their answers as the stored file has them.
 use crate::lists;
-use address::{Generic, GenericAddress};
+use address::GenericAddress;
 use cases::case::{Case, Outcome, low};
 use cases::replay::Questions;
-use fadt::{Plain, PowerProfile, Preferred, Value};
-use hpet::{Hpet, HpetInfo, PageProtection};
+use hpet::HpetInfo;
 use madt::{Madt, MadtEntry};
-use mcfg::{EntryCount, KthEntry, McfgEntry, PhysicalAddress};
-use platform::{Mailbox, Model};
+use mcfg::McfgEntry;
+use platform::Model;
+use refusal::Refusal;
 use std::alloc::{AllocError, Global};
 
 // Room for a table of 4,096 processors.
@@ -52,8 +52,8 @@ fn ask(case: &Case) -> Option<Outcome> {
     let table = case.image.as_slice();
     let stored = &case.stored;
     let outcome = match (case.id, case.arguments.as_slice()) {
-        (20, []) => stored.outcome(count(mcfg::entry_count(table)).map(of_length)),
-        (21, [k]) => stored.outcome(window(mcfg::entry(table, *k as usize)).map(of_window)),
+        (20, []) => stored.outcome(mcfg::entry_count(table).map(of_length)),
+        (21, [k]) => stored.outcome(mcfg::entry(table, *k as usize).map(of_window)),
         (22, [segment, bus, device, function]) => {
             let answer = mcfg::physical_address(
                 table,
@@ -62,29 +62,29 @@ fn ask(case: &Case) -> Option<Outcome> {
                 low_byte(*device),
                 low_byte(*function),
             );
-            stored.outcome(physical(answer).map(of_one))
+            stored.outcome(answer.map(of_one))
         }
-        (30, []) => stored.outcome(timer(hpet::hpet_info(table)).map(of_timer)),
-        (40, [which]) => stored.outcome(generic(register(table, *which)).map(of_generic)),
-        (41, []) => stored.outcome(value(fadt::facs_address(table)).map(of_one)),
-        (42, []) => stored.outcome(value(fadt::dsdt_address(table)).map(of_one)),
+        (30, []) => stored.outcome(hpet::hpet_info(table).map(of_timer)),
+        (40, [which]) => stored.outcome(register(table, *which).map(of_generic)),
+        (41, []) => stored.outcome(fadt::facs_address(table).map(of_one)),
+        (42, []) => stored.outcome(fadt::dsdt_address(table).map(of_one)),
         // The second argument, how many bytes the field has, follows from the first.
         (43, [offset, _]) => stored.outcome(fadt_field(table, *offset).map(of_one)),
         (44, [offset, bit]) => {
             let word = fadt_field(table, *offset);
             stored.outcome(word.map(|word| [u64::from(fadt::flag(word, low(*bit)))]))
         }
-        (50, []) => stored.outcome(fixed(madt::fixed_part(table)).map(of_fixed)),
-        (51, [k]) => stored.outcome(entry(madt::entry(table, *k as usize)).map(of_entry)),
-        (52, []) => stored.outcome(model(platform::interrupt_model(table)).map(of_model)),
-        (54, []) => stored.outcome(mailbox(platform::mailbox_address(table)).map(of_one)),
+        (50, []) => stored.outcome(madt::fixed_part(table).map(of_fixed)),
+        (51, [k]) => stored.outcome(madt::entry(table, *k as usize).map(of_entry)),
+        (52, []) => stored.outcome(platform::interrupt_model(table).map(of_model)),
+        (54, []) => stored.outcome(platform::mailbox_address(table).map(of_one)),
         _ => return None,
     };
     Some(outcome)
 }
 
 // The register blocks have the numbers 0 to 7. 8 is the reset register, 9 sleep control and 10 sleep status.
-fn register(table: &[u8], which: u64) -> Generic {
+fn register(table: &[u8], which: u64) -> Result<GenericAddress, Refusal> {
     match which {
         8 => fadt::reset_register(table),
         9 => fadt::sleep_control_register(table),
@@ -94,12 +94,12 @@ fn register(table: &[u8], which: u64) -> Generic {
 }
 
 // A plain field by the offset at which the specification has it.
-fn fadt_field(table: &[u8], offset: u64) -> Result<u64, u32> {
+fn fadt_field(table: &[u8], offset: u64) -> Result<u64, Refusal> {
     match offset {
-        45 => profile(fadt::power_profile(table)).map(profile_number),
-        128 => value(fadt::reset_value(table)),
-        129 => value(fadt::arm_boot_arch(table)),
-        _ => plain(fadt::fixed_fields(table)).map(|f| field_at(f, offset)),
+        45 => fadt::power_profile(table).map(|profile| u64::from(u8::from(profile))),
+        128 => fadt::reset_value(table),
+        129 => fadt::arm_boot_arch(table),
+        _ => fadt::fixed_fields(table).map(|f| field_at(f, offset)),
     }
 }
 
@@ -124,21 +124,6 @@ fn field_at(f: fadt::Fixed, offset: u64) -> u64 {
         108 => u64::from(f.century),
         109 => u64::from(f.iapc_boot_arch),
         _ => u64::from(f.flags),
-    }
-}
-
-fn profile_number(profile: PowerProfile) -> u64 {
-    match profile {
-        PowerProfile::Unspecified => 0,
-        PowerProfile::Desktop => 1,
-        PowerProfile::Mobile => 2,
-        PowerProfile::Workstation => 3,
-        PowerProfile::EnterpriseServer => 4,
-        PowerProfile::SohoServer => 5,
-        PowerProfile::AppliancePc => 6,
-        PowerProfile::PerformanceServer => 7,
-        PowerProfile::Tablet => 8,
-        PowerProfile::Reserved(n) => u64::from(n),
     }
 }
 
@@ -171,12 +156,6 @@ fn of_window(e: McfgEntry) -> [u64; 4] {
 }
 
 fn of_timer(h: HpetInfo) -> [u64; 9] {
-    let protection = match h.page_protection {
-        PageProtection::None => 0,
-        PageProtection::Protected4K => 1,
-        PageProtection::Protected64K => 2,
-        PageProtection::Other => 3,
-    };
     [
         u64::from(h.hardware_rev),
         u64::from(h.num_comparators),
@@ -186,16 +165,16 @@ fn of_timer(h: HpetInfo) -> [u64; 9] {
         h.base_address,
         u64::from(h.hpet_number),
         u64::from(h.clock_tick_unit),
-        protection,
+        u64::from(u8::from(h.page_protection)),
     ]
 }
 
 fn of_generic(a: GenericAddress) -> [u64; 5] {
     [
-        u64::from(address::space_number(a.address_space)),
+        u64::from(u8::from(a.address_space)),
         u64::from(a.bit_width),
         u64::from(a.bit_offset),
-        u64::from(address::size_number(a.access_size)),
+        u64::from(u8::from(a.access_size)),
         a.address,
     ]
 }
@@ -227,90 +206,4 @@ fn of_model(m: Model) -> [u64; 8] {
         m.nmi_sources as u64,
         m.local_apic_nmi_lines as u64,
     ]
-}
-
-// The answers as results.
-
-fn count(answer: EntryCount) -> Result<usize, u32> {
-    match answer {
-        EntryCount::Count(n) => Ok(n),
-        EntryCount::Refused(n) => Err(n),
-    }
-}
-
-fn window(answer: KthEntry) -> Result<McfgEntry, u32> {
-    match answer {
-        KthEntry::Entry(e) => Ok(e),
-        KthEntry::Refused(n) => Err(n),
-    }
-}
-
-fn physical(answer: PhysicalAddress) -> Result<u64, u32> {
-    match answer {
-        PhysicalAddress::Address(at) => Ok(at),
-        PhysicalAddress::Refused(n) => Err(n),
-    }
-}
-
-fn timer(answer: Hpet) -> Result<HpetInfo, u32> {
-    match answer {
-        Hpet::Info(h) => Ok(h),
-        Hpet::Refused(n) => Err(n),
-    }
-}
-
-fn generic(answer: Generic) -> Result<GenericAddress, u32> {
-    match answer {
-        Generic::Address(a) => Ok(a),
-        Generic::Refused(n) => Err(n),
-    }
-}
-
-fn value(answer: Value) -> Result<u64, u32> {
-    match answer {
-        Value::Found(v) => Ok(v),
-        Value::Refused(n) => Err(n),
-    }
-}
-
-fn profile(answer: Preferred) -> Result<PowerProfile, u32> {
-    match answer {
-        Preferred::Profile(p) => Ok(p),
-        Preferred::Refused(n) => Err(n),
-    }
-}
-
-fn plain(answer: Plain) -> Result<fadt::Fixed, u32> {
-    match answer {
-        Plain::Fields(f) => Ok(f),
-        Plain::Refused(n) => Err(n),
-    }
-}
-
-fn fixed(answer: madt::Fixed) -> Result<Madt, u32> {
-    match answer {
-        madt::Fixed::Part(m) => Ok(m),
-        madt::Fixed::Refused(n) => Err(n),
-    }
-}
-
-fn entry(answer: madt::Found) -> Result<MadtEntry, u32> {
-    match answer {
-        madt::Found::Entry(e) => Ok(e),
-        madt::Found::Refused(n) => Err(n),
-    }
-}
-
-fn model(answer: platform::Answer) -> Result<Model, u32> {
-    match answer {
-        platform::Answer::Model(m) => Ok(m),
-        platform::Answer::Refused(n) => Err(n),
-    }
-}
-
-fn mailbox(answer: Mailbox) -> Result<u64, u32> {
-    match answer {
-        Mailbox::Address(at) => Ok(at),
-        Mailbox::Refused(n) => Err(n),
-    }
 }

@@ -31,14 +31,15 @@ impl Tables {
 
     // The answer's number.
     fn fill(&mut self, table: &[u8]) -> u32 {
-        platform::fill(
+        let filled = platform::fill(
             table,
             &mut self.processors,
             &mut self.io_apics,
             &mut self.overrides,
             &mut self.nmi_sources,
             &mut self.nmi_lines,
-        )
+        );
+        filled.map_or_else(u32::from, |()| 0)
     }
 
     // In the order in which their lists are stored.

@@ -1,7 +1,6 @@
 -- The questions that other languages ask: a number is the result, values go to a lent buffer.
 pub mod Asked
 pub mod Fadt
-pub mod Inner
 pub mod Lists
 pub mod Named
 pub mod Platform

@@ -1,9 +1,18 @@
 -- Filling the five lent lists from a MADT that is found first: a refusal leaves all of them as they were.
-use Rattle.std.specs.Prelude.{ℕ, ◌≡◌, List}
+use Rattle.std.specs.Prelude.{ℕ, ◌≡◌, List, Result, Ok, Err}
+use Rattle.refusal.specs.Number.{number_of as refusal_number}
+use Rattle.refusal.specs.declared.Refusal.{Refusal}
 use Rattle.memory.specs.Places.{view_of}
 use Rattle.sdt.specs.Header.{whole_of}
 use Rattle.platform.specs.Fill.{Filled}
-use Rattle.tables.specs.declared.Found.{Found}
+use Rattle.tables.specs.declared.Table.{Table}
+use Rattle.answers.specs.Answer.{number_of}
+
+-- the lists are filled or left, and the answer is the number that says so: 0, or that of the refusal
+pub record FilledNumber (table : List ℕ) (r : ℕ) (p p' i i' o o' s s' l l' : List ℕ) : Type 0 where
+  pub outcome : Result (Unit {0}) Refusal
+  pub number : r ≡ number_of outcome
+  pub filled : Filled table outcome p p' i i' o o' s s' l l'
 
 -- the answer is the refusal, and each list is as it was
 pub record Untouched (n r : ℕ) (p p' i i' o o' s s' l l' : List ℕ) : Type 0 where
@@ -14,6 +23,6 @@ pub record Untouched (n r : ℕ) (p p' i i' o o' s s' l l' : List ℕ) : Type 0 
   pub nmi_sources : s' ≡ s
   pub local_apic_nmi_lines : l' ≡ l
 
-abbrev pub ListsAsked : List ℕ → List ℕ → Found → ℕ → List ℕ → List ℕ → List ℕ → List ℕ → List ℕ → List ℕ → List ℕ → List ℕ → List ℕ → List ℕ → Type 0
-ListsAsked image words (Found.Table t) r p p' i i' o o' s s' l l' = Filled (whole_of (view_of image words t.address)) r p p' i i' o o' s s' l l'
-ListsAsked image words (Found.Refused n) r p p' i i' o o' s s' l l' = Untouched n r p p' i i' o o' s s' l l'
+abbrev pub ListsAsked : List ℕ → List ℕ → Result Table Refusal → ℕ → List ℕ → List ℕ → List ℕ → List ℕ → List ℕ → List ℕ → List ℕ → List ℕ → List ℕ → List ℕ → Type 0
+ListsAsked image words (Ok t) r p p' i i' o o' s s' l l' = FilledNumber (whole_of (view_of image words t.address)) r p p' i i' o o' s s' l l'
+ListsAsked image words (Err e) r p p' i i' o o' s s' l l' = Untouched (refusal_number e) r p p' i i' o o' s s' l l'

@@ -1,31 +1,29 @@
 -- What a kernel asks first about its machine: power profile, interrupt model and power management timer in one answer.
-use Rattle.std.specs.Prelude.{ℕ, List, [], ◌∷◌, ◌++◌, Bool, false, replicate}
+use Rattle.std.specs.Prelude.{ℕ, List, [], ◌∷◌, ◌++◌, Bool, false, replicate, Option, Some, None, Result, Ok, Err}
 use Rattle.field.specs.First.{differ, when}
+use Rattle.field.specs.Then.{and_then}
+use Rattle.refusal.specs.Number.{number_of}
+use Rattle.refusal.specs.declared.Refusal.{Refusal}
+use Rattle.refusal.specs.declared.Refusal.TheVariants.{NotThere}
 use Rattle.memory.specs.Places.{view_of}
 use Rattle.sdt.specs.Header.{whole_of}
 use Rattle.sdt.specs.declared.Wanted.TheVariants.{Signature}
 use Rattle.tables.specs.Tables.{nth_table}
-use Rattle.tables.specs.declared.Found.{Found}
-use Rattle.address.specs.declared.Generic.{Generic}
+use Rattle.tables.specs.declared.Table.{Table}
+use Rattle.address.specs.declared.GenericAddress.{GenericAddress}
 use Rattle.fadt.specs.Blocks.{register_block}
 use Rattle.fadt.specs.Fields.{fixed_fields}
 use Rattle.fadt.specs.Flags.{flag_of}
-use Rattle.fadt.specs.Profiles.{power_profile}
-use Rattle.fadt.specs.declared.Plain.{Plain}
+use Rattle.fadt.specs.Profiles.{power_profile, profile_number}
+use Rattle.fadt.specs.declared.Fixed.{Fixed}
 use Rattle.fadt.specs.declared.RegisterBlock.TheVariants.{PmTimer}
 use Rattle.platform.specs.Model.{model_of}
 use Rattle.platform.specs.declared.Model.{Model}
-use Rattle.platform.specs.declared.Answer.{Answer as PlatformAnswer}
-use Rattle.answers.specs.Answer.{Answer}
-use Rattle.answers.specs.Answer.Answer.{values, refused}
-use Rattle.answers.specs.Words.{bit, profile_answer, generic_answer, model_answer}
+use Rattle.answers.specs.Answer.{answer_of}
+use Rattle.answers.specs.Words.{bit, generic_values, model_values}
 use Rattle.tablewalk.specs.Asked.{asked_of}
-
--- the values of both answers in order, or the first refusal
-unfoldable pub joined : Answer → Answer → Answer
-joined (values vs) (values ws) = values (vs ++ ws)
-joined (values vs) (refused n) = refused n
-joined (refused n) rest = refused n
+use Rattle.tablewalk.specs.declared.platform_info.PmTimer.{PmTimer as Timer}
+use Rattle.tablewalk.specs.declared.platform_info.PlatformInfo.{PlatformInfo}
 
 -- a model that is not known, and of which nothing is
 abbrev pub unknown_model : Model
@@ -42,29 +40,45 @@ unknown_model =
     }
 
 -- the model that a MADT describes; a machine without a valid MADT has an unknown one, which is no refusal
-unfoldable pub model_part : List ℕ → List ℕ → Found → PlatformAnswer
-model_part image words (Found.Table t) = model_of (whole_of (view_of image words t.address))
-model_part image words (Found.Refused n) = PlatformAnswer.Model unknown_model
+unfoldable pub model_part : List ℕ → List ℕ → Result Table Refusal → Result Model Refusal
+model_part image words (Ok t) = model_of (whole_of (view_of image words t.address))
+model_part image words (Err r) = Ok unknown_model
 
 -- whether the timer has 32 bits: TMR_VAL_EXT, bit 8 of the flags (ACPI 6.5, Table 5.10)
-unfoldable pub wide_timer : Plain → Bool
-wide_timer (Plain.Fields f) = flag_of f.flags 8
-wide_timer (Plain.Refused n) = false
+unfoldable pub wide_timer : Result Fixed Refusal → Bool
+wide_timer (Ok f) = flag_of f.flags 8
+wide_timer (Err r) = false
 
--- 1, the timer's generic address and whether it has 32 bits; seven zeros where its block is not there
-unfoldable pub timer_answer : Generic → Bool → Answer
-timer_answer (Generic.Address a) wide = joined (values (1 ∷ [])) (joined (generic_answer (Generic.Address a)) (values (bit wide ∷ [])))
-timer_answer (Generic.Refused n) wide = when (differ n 13) (refused n) (values (replicate 7 0))
+-- the timer whose block was looked for: a block that is not there is no refusal, and then there is no timer
+unfoldable pub timer_at : Result GenericAddress Refusal → Bool → Result (Option Timer) Refusal
+timer_at (Ok base) wide = Ok (Some (record { base = base; supports_32bit = wide }))
+timer_at (Err r) wide = when (differ (number_of r) (number_of NotThere)) (Err r) (Ok None)
 
-unfoldable pub timer_part : List ℕ → Answer
-timer_part fadt = timer_answer (register_block fadt PmTimer) (wide_timer (fixed_fields fadt))
+unfoldable pub timer_of : List ℕ → Result (Option Timer) Refusal
+timer_of fadt = timer_at (register_block fadt PmTimer) (wide_timer (fixed_fields fadt))
 
--- the power profile of the FADT, then the model, then the timer of the FADT
-unfoldable pub platform_of : PlatformAnswer → List ℕ → Answer
-platform_of model fadt = joined (profile_answer (power_profile fadt)) (joined (model_answer model) (timer_part fadt))
+-- the power profile of the FADT, then the model, then the timer of the FADT: the first refusal counts
+unfoldable pub info_with : Result Model Refusal → List ℕ → Result PlatformInfo Refusal
+info_with model fadt =
+    and_then (power_profile fadt)
+    (λ profile. and_then model
+    (λ m. and_then (timer_of fadt)
+    (λ timer. Ok (record { power_profile = profile; interrupt_model = m; pm_timer = timer }))))
 
 -- A FADT is needed, and a MADT is looked for: "FACP" and "APIC", lowest byte first.
-unfoldable pub platform_answer : List ℕ → List ℕ → ℕ → Answer
-platform_answer image words rsdp =
-    asked_of image words (platform_of (model_part image words (nth_table image words rsdp (Signature 0x43495041) 44 0)))
+unfoldable pub platform_info_of : List ℕ → List ℕ → ℕ → Result PlatformInfo Refusal
+platform_info_of image words rsdp =
+    asked_of image words (info_with (model_part image words (nth_table image words rsdp (Signature 0x43495041) 44 0)))
     (nth_table image words rsdp (Signature 0x50434146) 116 0)
+
+-- 1, the timer's generic address and whether it has 32 bits; seven zeros where there is none
+abbrev pub timer_values : Option Timer → List ℕ
+timer_values (Some t) = 1 ∷ generic_values t.base ++ bit t.supports_32bit ∷ []
+timer_values None = replicate 7 0
+
+-- the number of the profile, the words of the model, and those of the timer
+abbrev pub platform_values : PlatformInfo → List ℕ
+platform_values info = profile_number info.power_profile ∷ (model_values info.interrupt_model ++ timer_values info.pm_timer)
+
+unfoldable pub platform_answer : List ℕ → List ℕ → ℕ → Result (List ℕ) Refusal
+platform_answer image words rsdp = answer_of platform_values (platform_info_of image words rsdp)

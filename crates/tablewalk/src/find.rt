@@ -1,5 +1,5 @@
 // Questions about a table that is found first, from the address of the root pointer.
-ghost use Rattle.std.specs.Prelude.{ℕ, List};
+ghost use Rattle.std.specs.Prelude.{◌≡◌, ℕ, List, Ok, Err, MatchResult};
 ghost use Rattle.hpet.specs.Hpet.{hpet_of};
 ghost use Rattle.mcfg.specs.Entries.{entry_count_of, entry_of};
 ghost use Rattle.mcfg.specs.Physical.{physical_address_of};
@@ -12,13 +12,16 @@ ghost use Rattle.platform.specs.Mailbox.{mailbox_of};
 ghost use Rattle.tablewalk.specs.Lists.{ListsAsked};
 ghost use Rattle.sdt.specs.declared.Wanted.TheVariants.{Signature};
 ghost use Rattle.tables.specs.Tables.{nth_table};
-ghost use Rattle.answers.specs.Answer.{Reported};
-ghost use Rattle.answers.specs.Words.{hpet_answer, count_answer, window_answer, pci_answer, fixed_answer, madt_answer, madt_entry_answer, model_answer, mailbox_answer};
-ghost use Rattle.tablewalk.specs.Asked.{dsdt_answer, asked_of};
-ghost use Rattle.tablewalk.specs.Fadt.{register_answer, number_answer};
+ghost use Rattle.answers.specs.Answer.{answer_of, Reported};
+ghost use Rattle.answers.specs.Words.{hpet_values, one_value, window_values, fixed_values, generic_values, aml_values, madt_values, madt_entry_values, model_values};
+ghost use Rattle.tablewalk.specs.Asked.{dsdt_of, asked_of, whole_found};
+ghost use Rattle.tablewalk.specs.Fadt.{register_of, number_of};
 
 use crate::table;
+use answers::aml::{self, Aml};
 use answers::report;
+use refusal::Refusal;
+use sdt::Wanted;
 
 const HPET: u32 = 0x54455048;
 
@@ -28,18 +31,31 @@ pub const FACP: u32 = 0x50434146;
 
 pub const APIC: u32 = 0x43495041;
 
+const DSDT: u32 = 0x54445344;
+
+// The bytes of the first valid table that has a signature and at least so many bytes.
+pub fn first_table<'a>(
+    image: &'a [u8],
+    ranges: &[u64],
+    rsdp: u64,
+    signature: u32,
+    least: u32,
+) -> Result<&'a [u8], Refusal>
+    ensures { MatchResult result
+        (λ table. whole_found image.now ranges.now (nth_table image.now ranges.now rsdp (Signature signature) least 0) ≡ Ok table.now)
+        (λ refusal. whole_found image.now ranges.now (nth_table image.now ranges.now rsdp (Signature signature) least 0) ≡ Err refusal) }
+{
+    let table = tables::find_table(image, ranges, rsdp, signature, least)?;
+    Ok(tables::whole(image, ranges, table.address))
+}
+
 // As `tablewalk_table_hpet`, of the first valid table of its signature.
 #[unsafe(no_mangle)]
 pub extern "C" fn tablewalk_hpet(image: &[u8], ranges: &[u64], rsdp: u64, out: &mut [u64]) -> u32
-    ensures { Reported (asked_of image.now ranges.now (λ (t : List ℕ). hpet_answer (hpet_of t)) (nth_table image.now ranges.now rsdp (Signature 0x54455048) 56 0)) result out.old out.new }
+    ensures { Reported (answer_of hpet_values (asked_of image.now ranges.now hpet_of (nth_table image.now ranges.now rsdp (Signature 0x54455048) 56 0))) result out.old out.new }
 {
-    match tables::find_table(image, ranges, rsdp, HPET, 56) {
-        tables::Found::Refused(n) => n,
-        tables::Found::Table(t) => {
-            let table = tables::whole(image, ranges, t.address);
-            table::tablewalk_table_hpet(table, out)
-        }
-    }
+    let found = first_table(image, ranges, rsdp, HPET, 56);
+    report(found.and_then(hpet::hpet_info), out)
 }
 
 // As `tablewalk_table_mcfg_count`, of the first valid table of its signature.
@@ -50,15 +66,10 @@ pub extern "C" fn tablewalk_mcfg_count(
     rsdp: u64,
     out: &mut [u64],
 ) -> u32
-    ensures { Reported (asked_of image.now ranges.now (λ (t : List ℕ). count_answer (entry_count_of t)) (nth_table image.now ranges.now rsdp (Signature 0x4746434d) 44 0)) result out.old out.new }
+    ensures { Reported (answer_of one_value (asked_of image.now ranges.now entry_count_of (nth_table image.now ranges.now rsdp (Signature 0x4746434d) 44 0))) result out.old out.new }
 {
-    match tables::find_table(image, ranges, rsdp, MCFG, 44) {
-        tables::Found::Refused(n) => n,
-        tables::Found::Table(t) => {
-            let table = tables::whole(image, ranges, t.address);
-            table::tablewalk_table_mcfg_count(table, out)
-        }
-    }
+    let found = first_table(image, ranges, rsdp, MCFG, 44);
+    report(found.and_then(mcfg::entry_count), out)
 }
 
 // As `tablewalk_table_mcfg_entry`, of the first valid table of its signature.
@@ -70,15 +81,10 @@ pub extern "C" fn tablewalk_mcfg_entry(
     k: usize,
     out: &mut [u64],
 ) -> u32
-    ensures { Reported (asked_of image.now ranges.now (λ (t : List ℕ). window_answer (entry_of t k)) (nth_table image.now ranges.now rsdp (Signature 0x4746434d) 44 0)) result out.old out.new }
+    ensures { Reported (answer_of window_values (asked_of image.now ranges.now (λ (t : List ℕ). entry_of t k) (nth_table image.now ranges.now rsdp (Signature 0x4746434d) 44 0))) result out.old out.new }
 {
-    match tables::find_table(image, ranges, rsdp, MCFG, 44) {
-        tables::Found::Refused(n) => n,
-        tables::Found::Table(t) => {
-            let table = tables::whole(image, ranges, t.address);
-            table::tablewalk_table_mcfg_entry(table, k, out)
-        }
-    }
+    let found = first_table(image, ranges, rsdp, MCFG, 44);
+    report(found.and_then(|table| mcfg::entry(table, k)), out)
 }
 
 // As `tablewalk_table_pci_address`, of the first valid table of its signature.
@@ -93,15 +99,13 @@ pub extern "C" fn tablewalk_pci_address(
     function: u8,
     out: &mut [u64],
 ) -> u32
-    ensures { Reported (asked_of image.now ranges.now (λ (t : List ℕ). pci_answer (physical_address_of t segment bus device function)) (nth_table image.now ranges.now rsdp (Signature 0x4746434d) 44 0)) result out.old out.new }
+    ensures { Reported (answer_of one_value (asked_of image.now ranges.now (λ (t : List ℕ). physical_address_of t segment bus device function) (nth_table image.now ranges.now rsdp (Signature 0x4746434d) 44 0))) result out.old out.new }
 {
-    match tables::find_table(image, ranges, rsdp, MCFG, 44) {
-        tables::Found::Refused(n) => n,
-        tables::Found::Table(t) => {
-            let table = tables::whole(image, ranges, t.address);
-            table::tablewalk_table_pci_address(table, segment, bus, device, function, out)
-        }
-    }
+    let found = first_table(image, ranges, rsdp, MCFG, 44);
+    report(
+        found.and_then(|table| mcfg::physical_address(table, segment, bus, device, function)),
+        out,
+    )
 }
 
 // As `tablewalk_table_fadt_fixed`, of the first valid table of its signature.
@@ -112,15 +116,10 @@ pub extern "C" fn tablewalk_fadt_fixed(
     rsdp: u64,
     out: &mut [u64],
 ) -> u32
-    ensures { Reported (asked_of image.now ranges.now (λ (t : List ℕ). fixed_answer (fixed_fields t)) (nth_table image.now ranges.now rsdp (Signature 0x50434146) 116 0)) result out.old out.new }
+    ensures { Reported (answer_of fixed_values (asked_of image.now ranges.now fixed_fields (nth_table image.now ranges.now rsdp (Signature 0x50434146) 116 0))) result out.old out.new }
 {
-    match tables::find_table(image, ranges, rsdp, FACP, 116) {
-        tables::Found::Refused(n) => n,
-        tables::Found::Table(t) => {
-            let table = tables::whole(image, ranges, t.address);
-            table::tablewalk_table_fadt_fixed(table, out)
-        }
-    }
+    let found = first_table(image, ranges, rsdp, FACP, 116);
+    report(found.and_then(fadt::fixed_fields), out)
 }
 
 // As `tablewalk_table_fadt_register`, of the first valid table of its signature.
@@ -132,15 +131,13 @@ pub extern "C" fn tablewalk_fadt_register(
     which: u32,
     out: &mut [u64],
 ) -> u32
-    ensures { Reported (asked_of image.now ranges.now (λ (t : List ℕ). register_answer t which) (nth_table image.now ranges.now rsdp (Signature 0x50434146) 116 0)) result out.old out.new }
+    ensures { Reported (answer_of generic_values (asked_of image.now ranges.now (λ (t : List ℕ). register_of t which) (nth_table image.now ranges.now rsdp (Signature 0x50434146) 116 0))) result out.old out.new }
 {
-    match tables::find_table(image, ranges, rsdp, FACP, 116) {
-        tables::Found::Refused(n) => n,
-        tables::Found::Table(t) => {
-            let table = tables::whole(image, ranges, t.address);
-            table::tablewalk_table_fadt_register(table, which, out)
-        }
-    }
+    let found = first_table(image, ranges, rsdp, FACP, 116);
+    report(
+        found.and_then(|table| table::fadt_register(table, which)),
+        out,
+    )
 }
 
 // As `tablewalk_table_fadt_number`, of the first valid table of its signature.
@@ -152,15 +149,13 @@ pub extern "C" fn tablewalk_fadt_number(
     which: u32,
     out: &mut [u64],
 ) -> u32
-    ensures { Reported (asked_of image.now ranges.now (λ (t : List ℕ). number_answer t which) (nth_table image.now ranges.now rsdp (Signature 0x50434146) 116 0)) result out.old out.new }
+    ensures { Reported (answer_of one_value (asked_of image.now ranges.now (λ (t : List ℕ). number_of t which) (nth_table image.now ranges.now rsdp (Signature 0x50434146) 116 0))) result out.old out.new }
 {
-    match tables::find_table(image, ranges, rsdp, FACP, 116) {
-        tables::Found::Refused(n) => n,
-        tables::Found::Table(t) => {
-            let table = tables::whole(image, ranges, t.address);
-            table::tablewalk_table_fadt_number(table, which, out)
-        }
-    }
+    let found = first_table(image, ranges, rsdp, FACP, 116);
+    report(
+        found.and_then(|table| table::fadt_number(table, which)),
+        out,
+    )
 }
 
 // As `tablewalk_table_madt_fixed`, of the first valid table of its signature.
@@ -171,15 +166,10 @@ pub extern "C" fn tablewalk_madt_fixed(
     rsdp: u64,
     out: &mut [u64],
 ) -> u32
-    ensures { Reported (asked_of image.now ranges.now (λ (t : List ℕ). madt_answer (fixed_of t)) (nth_table image.now ranges.now rsdp (Signature 0x43495041) 44 0)) result out.old out.new }
+    ensures { Reported (answer_of madt_values (asked_of image.now ranges.now fixed_of (nth_table image.now ranges.now rsdp (Signature 0x43495041) 44 0))) result out.old out.new }
 {
-    match tables::find_table(image, ranges, rsdp, APIC, 44) {
-        tables::Found::Refused(n) => n,
-        tables::Found::Table(t) => {
-            let table = tables::whole(image, ranges, t.address);
-            table::tablewalk_table_madt_fixed(table, out)
-        }
-    }
+    let found = first_table(image, ranges, rsdp, APIC, 44);
+    report(found.and_then(madt::fixed_part), out)
 }
 
 // As `tablewalk_table_madt_entry`, of the first valid table of its signature.
@@ -191,15 +181,10 @@ pub extern "C" fn tablewalk_madt_entry(
     k: usize,
     out: &mut [u64],
 ) -> u32
-    ensures { Reported (asked_of image.now ranges.now (λ (t : List ℕ). madt_entry_answer (madt_entry_of t k)) (nth_table image.now ranges.now rsdp (Signature 0x43495041) 44 0)) result out.old out.new }
+    ensures { Reported (answer_of madt_entry_values (asked_of image.now ranges.now (λ (t : List ℕ). madt_entry_of t k) (nth_table image.now ranges.now rsdp (Signature 0x43495041) 44 0))) result out.old out.new }
 {
-    match tables::find_table(image, ranges, rsdp, APIC, 44) {
-        tables::Found::Refused(n) => n,
-        tables::Found::Table(t) => {
-            let table = tables::whole(image, ranges, t.address);
-            table::tablewalk_table_madt_entry(table, k, out)
-        }
-    }
+    let found = first_table(image, ranges, rsdp, APIC, 44);
+    report(found.and_then(|table| madt::entry(table, k)), out)
 }
 
 // As `tablewalk_table_interrupt_model`, of the first valid table of its signature.
@@ -210,29 +195,19 @@ pub extern "C" fn tablewalk_interrupt_model(
     rsdp: u64,
     out: &mut [u64],
 ) -> u32
-    ensures { Reported (asked_of image.now ranges.now (λ (t : List ℕ). model_answer (model_of t)) (nth_table image.now ranges.now rsdp (Signature 0x43495041) 44 0)) result out.old out.new }
+    ensures { Reported (answer_of model_values (asked_of image.now ranges.now model_of (nth_table image.now ranges.now rsdp (Signature 0x43495041) 44 0))) result out.old out.new }
 {
-    match tables::find_table(image, ranges, rsdp, APIC, 44) {
-        tables::Found::Refused(n) => n,
-        tables::Found::Table(t) => {
-            let table = tables::whole(image, ranges, t.address);
-            table::tablewalk_table_interrupt_model(table, out)
-        }
-    }
+    let found = first_table(image, ranges, rsdp, APIC, 44);
+    report(found.and_then(platform::interrupt_model), out)
 }
 
 // As `tablewalk_table_mailbox`, of the first valid table of its signature.
 #[unsafe(no_mangle)]
 pub extern "C" fn tablewalk_mailbox(image: &[u8], ranges: &[u64], rsdp: u64, out: &mut [u64]) -> u32
-    ensures { Reported (asked_of image.now ranges.now (λ (t : List ℕ). mailbox_answer (mailbox_of t)) (nth_table image.now ranges.now rsdp (Signature 0x43495041) 44 0)) result out.old out.new }
+    ensures { Reported (answer_of one_value (asked_of image.now ranges.now mailbox_of (nth_table image.now ranges.now rsdp (Signature 0x43495041) 44 0))) result out.old out.new }
 {
-    match tables::find_table(image, ranges, rsdp, APIC, 44) {
-        tables::Found::Refused(n) => n,
-        tables::Found::Table(t) => {
-            let table = tables::whole(image, ranges, t.address);
-            table::tablewalk_table_mailbox(table, out)
-        }
-    }
+    let found = first_table(image, ranges, rsdp, APIC, 44);
+    report(found.and_then(platform::mailbox_address), out)
 }
 
 // As `tablewalk_table_interrupt_lists`, of the first valid MADT.
@@ -252,47 +227,34 @@ pub extern "C" fn tablewalk_interrupt_lists(
         interrupt_source_overrides.old interrupt_source_overrides.new nmi_sources.old
         nmi_sources.new local_apic_nmi_lines.old local_apic_nmi_lines.new }
 {
-    match tables::find_table(image, ranges, rsdp, APIC, 44) {
-        tables::Found::Refused(n) => n,
-        tables::Found::Table(t) => {
-            let table = tables::whole(image, ranges, t.address);
-            table::tablewalk_table_interrupt_lists(
-                table,
-                processors,
-                io_apics,
-                interrupt_source_overrides,
-                nmi_sources,
-                local_apic_nmi_lines,
-            )
-        }
+    match first_table(image, ranges, rsdp, APIC, 44) {
+        Ok(table) => table::tablewalk_table_interrupt_lists(
+            table,
+            processors,
+            io_apics,
+            interrupt_source_overrides,
+            nmi_sources,
+            local_apic_nmi_lines,
+        ),
+        Err(refusal) => refusal.into(),
     }
 }
 
-const DSDT: u32 = 0x54445344;
-
-// The DSDT at the address that a FADT gives.
-fn dsdt_at(image: &[u8], ranges: &[u64], address: fadt::Value, out: &mut [u64]) -> u32
-    ensures { Reported (dsdt_answer image.now ranges.now address) result out.old out.new }
+// What follows the header of the DSDT that the FADT leads to.
+#[tactic(auto, unfolding(crate::specs::Asked::dsdt_of))]
+fn dsdt(image: &[u8], ranges: &[u64], rsdp: u64) -> Result<Aml, Refusal>
+    ensures { result ≡ asked_of image.now ranges.now (λ (t : List ℕ). dsdt_of image.now ranges.now (dsdt_address t)) (nth_table image.now ranges.now rsdp (Signature 0x50434146) 116 0) }
 {
-    match address {
-        fadt::Value::Refused(n) => n,
-        fadt::Value::Found(p) => report::aml(
-            tables::table_at(image, ranges, p, sdt::Wanted::Signature(DSDT), 36),
-            out,
-        ),
-    }
+    let fadt = first_table(image, ranges, rsdp, FACP, 116)?;
+    let address = fadt::dsdt_address(fadt)?;
+    let wanted = Wanted::Signature(DSDT);
+    aml::behind_the_header(tables::table_at(image, ranges, address, wanted, 36)?)
 }
 
 // What follows the header of the DSDT: physical address and length.
 #[unsafe(no_mangle)]
 pub extern "C" fn tablewalk_dsdt(image: &[u8], ranges: &[u64], rsdp: u64, out: &mut [u64]) -> u32
-    ensures { Reported (asked_of image.now ranges.now (λ (t : List ℕ). dsdt_answer image.now ranges.now (dsdt_address t)) (nth_table image.now ranges.now rsdp (Signature 0x50434146) 116 0)) result out.old out.new }
+    ensures { Reported (answer_of aml_values (asked_of image.now ranges.now (λ (t : List ℕ). dsdt_of image.now ranges.now (dsdt_address t)) (nth_table image.now ranges.now rsdp (Signature 0x50434146) 116 0))) result out.old out.new }
 {
-    match tables::find_table(image, ranges, rsdp, FACP, 116) {
-        tables::Found::Refused(n) => n,
-        tables::Found::Table(t) => {
-            let address = fadt::dsdt_address(tables::whole(image, ranges, t.address));
-            dsdt_at(image, ranges, address, out)
-        }
-    }
+    report(dsdt(image, ranges, rsdp), out)
 }

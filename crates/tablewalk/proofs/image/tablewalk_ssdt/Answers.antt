@@ -1,8 +1,0 @@
--- `tablewalk_ssdt` meets its contract: what was answered is reported.
-use Rattle.std.proofs.Common.{ap, sym}
-use Rattle.answers.specs.Words.{aml_answer}
-use Rattle.answers.proofs.AnswerLaws.{same_answer}
-use Rattle.tablewalk.proofs.image.tablewalk_ssdt.Goals as goal
-
-pub returns : goal.returns
-returns c = same_answer (ap aml_answer (sym c.nth_table.ensures)) c.aml.ensures
