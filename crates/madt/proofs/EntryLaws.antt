@@ -1,6 +1,6 @@
 -- Laws about the walk through the entries.
 use Rattle.std.proofs.Common.{ℕ, zero, suc, ◌+◌, ◌-◌, ◌≤◌, ◌<◌, ◌≡◌, refl, ap, sym, subst, ◌∙◌, List, [], ◌∷◌, append-nil, Bool, true, false, true≢false, arith, length, drop, drop_of_length-le, take-append-drop, drop-drop}
-use Rattle.std.specs.Prelude.{Option, Some, None, Ok, Err, IsOk}
+use Rattle.std.specs.Prelude.{Option, Some, None, Result, Ok, Err, IsOk}
 use Rattle.refusal.specs.declared.Refusal.{Refusal}
 use Rattle.refusal.specs.declared.Refusal.TheVariants.{InconsistentEntry}
 use Rattle.field.specs.Part.{part}
@@ -9,8 +9,12 @@ use Rattle.field.specs.First.{when, less}
 use Rattle.field.proofs.FirstLaws.{less_yes, less_true, less_false, when_hit, when_pass}
 use Rattle.madt.specs.declared.MadtEntry.{MadtEntry}
 use Rattle.madt.specs.Kinds.{kind_of, least_length}
-use Rattle.madt.specs.Entries.{Item, entry_at, item_at, next_at, walk, entries_from, entries, faulty, joined, EntriesAreTheTable}
+use Rattle.madt.specs.Entries.{entry_at, item_at, next_at, walk, entries_from, entries, faulty, joined, EntriesAreTheTable}
 use Rattle.madt.proofs.KindLaws.{at_least_two}
+
+-- An item of the walk.
+abbrev pub Item : Type 0
+Item = Result MadtEntry Refusal
 
 -- A chain of tests that ends in y has passed a test that would have ended in something else.
 record Past {A : Type 0} (t : Bool) (rest y : A) : Type 0 where

@@ -11,17 +11,13 @@ use Rattle.madt.specs.declared.MadtEntry.{MadtEntry}
 use Rattle.madt.specs.Kinds.{kind_of, least_length}
 use Rattle.madt.specs.Fixed.{madt_checked}
 
--- An item of the walk: an entry, or a fault, from which on no entry can be told.
-abbrev pub Item : Type 0
-Item = Result MadtEntry Refusal
-
 -- the entry that begins at `at`, if one does
 abbrev pub entry_at : List ℕ → ℕ → MadtEntry
 entry_at s at = record { kind = kind_of (number s at 1); number = number s at 1; at = at; len = number s (at + 1) 1 }
 
 -- What stands at `at`. There is no entry where a single byte is left, where the length is below the least of its kind, and where
 -- it reaches past the table's end.
-unfoldable pub item_at : List ℕ → ℕ → Item
+unfoldable pub item_at : List ℕ → ℕ → Result MadtEntry Refusal
 item_at s at =
     when (less (length s) (at + 2)) (Err InconsistentEntry)
     (when (less (entry_at s at).len (least_length (entry_at s at).kind)) (Err InconsistentEntry)
@@ -29,11 +25,11 @@ item_at s at =
     (Ok (entry_at s at))))
 
 -- the same, and nothing where the table has ended
-unfoldable pub next_at : List ℕ → ℕ → Option Item
+unfoldable pub next_at : List ℕ → ℕ → Option (Result MadtEntry Refusal)
 next_at s at = when (less (length s) (at + 1)) None (Some (item_at s at))
 
--- The items from `at` on, in so many steps at most. A fault is the last item.
-unfoldable pub walk : ℕ → List ℕ → ℕ → List Item
+-- The items from `at` on, in so many steps at most: entries, and as the last item a fault, from which on no entry can be told.
+unfoldable pub walk : ℕ → List ℕ → ℕ → List (Result MadtEntry Refusal)
 walk zero s at = []
 walk (suc steps) s at =
     elim (next_at s at) [
@@ -43,27 +39,27 @@ walk (suc steps) s at =
     ]
 
 -- An entry has two bytes at least, so as many steps as the table has bytes are enough.
-unfoldable pub entries_from : List ℕ → ℕ → List Item
+unfoldable pub entries_from : List ℕ → ℕ → List (Result MadtEntry Refusal)
 entries_from s at = walk (length s) s at
 
-unfoldable pub entries : List ℕ → List Item
+unfoldable pub entries : List ℕ → List (Result MadtEntry Refusal)
 entries s = entries_from s 44
 
 -- the walk has met a fault
-unfoldable pub faulty : List Item → Bool
+unfoldable pub faulty : List (Result MadtEntry Refusal) → Bool
 faulty [] = false
 faulty (Ok e ∷ items) = faulty items
 faulty (Err r ∷ items) = true
 
 -- The item that has k items in front of it.
-unfoldable pub nth : List Item → ℕ → Item
+unfoldable pub nth : List (Result MadtEntry Refusal) → ℕ → Result MadtEntry Refusal
 nth items k = unwrap_or (slice_get items k) (Err NotThere)
 
-unfoldable pub entry_of : List ℕ → ℕ → Item
+unfoldable pub entry_of : List ℕ → ℕ → Result MadtEntry Refusal
 entry_of s k = and_then (madt_checked s) (λ _. nth (entries s) k)
 
 -- The bytes of the items from `at` on, one item behind the other; a fault has all that are left.
-unfoldable pub joined : List ℕ → ℕ → List Item → List ℕ
+unfoldable pub joined : List ℕ → ℕ → List (Result MadtEntry Refusal) → List ℕ
 joined s at [] = []
 joined s at (Ok e ∷ items) = part s e.at e.len ++ joined s (e.at + e.len) items
 joined s at (Err r ∷ items) = drop at s ++ joined s (length s) items

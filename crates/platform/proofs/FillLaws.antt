@@ -3,7 +3,8 @@ use Rattle.std.proofs.Common.{ℕ, ◌+◌, ◌≤◌, ◌<◌, ◌≡◌, refl,
 use Rattle.std.specs.Prelude.{Option, Some, Ok, if◌then◌else◌}
 use Rattle.field.specs.First.{when}
 use Rattle.field.proofs.FirstLaws.{when_hit, when_pass}
-use Rattle.madt.specs.Entries.{Item, entries}
+use Rattle.madt.specs.Entries.{entries}
+use Rattle.madt.proofs.EntryLaws.{Item}
 use Rattle.madt.specs.declared.MadtEntry.{MadtEntry}
 use Rattle.madt.specs.declared.Kind.{Kind}
 use Rattle.madt.specs.declared.Kind.TheVariants.{
@@ -16,19 +17,27 @@ use Rattle.madt.specs.declared.Kind.TheVariants.{
   X2ApicNmi,
 }
 use Rattle.platform.specs.declared.Record.{Record}
-use Rattle.platform.specs.declared.Record.TheVariants.{Processor, Controller, Override, Nmi, NmiLine}
+use Rattle.platform.specs.declared.Record.TheVariants.{Processor, IoApic as IoApicRecord, Override, NmiSource as NmiSourceRecord, NmiLine}
 use Rattle.platform.specs.Lists.{ListName, goes_to, those}
 use Rattle.platform.specs.Lists.ListName.{processors, io_apics, interrupt_source_overrides, nmi_sources, local_apic_nmi_lines}
 use Rattle.platform.specs.Records.{record_of, spelled, words_of, waiting, running, list}
 use Rattle.platform.specs.Fill.{over}
 use Rattle.platform.specs.Inner.{enabled_at}
 
+-- of five things, in the order of the lists, the one of a list
+abbrev pub of_list : {A : Type 0} → A → A → A → A → A → ListName → A
+of_list p i o n l processors = p
+of_list p i o n l io_apics = i
+of_list p i o n l interrupt_source_overrides = o
+of_list p i o n l nmi_sources = n
+of_list p i o n l local_apic_nmi_lines = l
+
 -- the list that a record is for
 abbrev pub is_for : Option Record → ListName → Bool
 is_for (Some (Processor w)) processors = true
-is_for (Some (Controller w)) io_apics = true
+is_for (Some (IoApicRecord w)) io_apics = true
 is_for (Some (Override w)) interrupt_source_overrides = true
-is_for (Some (Nmi w)) nmi_sources = true
+is_for (Some (NmiSourceRecord w)) nmi_sources = true
 is_for (Some (NmiLine w)) local_apic_nmi_lines = true
 is_for _ _ = false
 

@@ -3,7 +3,8 @@ use Rattle.std.proofs.Common.{suc, ◌≤◌, ◌≡◌, refl, ◌∙◌, List, 
 use Rattle.std.specs.Prelude.{Ok, Err}
 use Rattle.field.specs.First.{when}
 use Rattle.field.proofs.FirstLaws.{when_pass}
-use Rattle.madt.specs.Entries.{Item, entries}
+use Rattle.madt.specs.Entries.{entries}
+use Rattle.madt.proofs.EntryLaws.{Item}
 use Rattle.madt.specs.declared.Kind.{Kind}
 use Rattle.madt.specs.declared.Kind.TheVariants.{MultiprocessorWakeup, Foreign, Reserved}
 use Rattle.platform.specs.Lists.{ListName, goes_to, of_model, those}

@@ -8,7 +8,8 @@ use Rattle.field.specs.First.{when, checked}
 use Rattle.field.proofs.FirstLaws.{less_no, less_false, hit, pass, clear, all_clear, append_stops, append_passes, ascends, ascending}
 use Rattle.field.proofs.ThenLaws.{then_ok, then_err}
 use Rattle.madt.specs.Fixed.{madt_of}
-use Rattle.madt.specs.Entries.{Item, entries, faulty}
+use Rattle.madt.specs.Entries.{entries, faulty}
+use Rattle.madt.proofs.EntryLaws.{Item}
 use Rattle.madt.specs.declared.Kind.{Kind}
 use Rattle.madt.specs.declared.Kind.TheVariants.{
   LocalApic,
@@ -25,8 +26,9 @@ use Rattle.platform.specs.Lists.ListName.{processors, io_apics, interrupt_source
 use Rattle.platform.specs.Records.{record_of, spelled, words_of, waiting, running, list}
 use Rattle.platform.specs.Model.{model_with, refusals, RefusalsAscend, model_of}
 use Rattle.platform.specs.Fill.{too_short, fill_refusals, fill_checked, FillRefusalsAscend, Filled}
-use Rattle.platform.specs.Inner.{count, Rooms}
+use Rattle.platform.specs.Inner.{count}
 use Rattle.platform.proofs.ListLaws.{neither}
+use Rattle.platform.proofs.FillLaws.{of_list}
 
 pub refusals_ascend : RefusalsAscend
 unfolding refusals ascends
@@ -109,6 +111,10 @@ pub sound : (s : List ℕ) → checked (refusals s) ≡ Ok tt → faulty (entrie
 unfolding refusals
 sound s none = (all_clear _ _ _ (all_clear _ _ _ none).others).fails
 
+-- Every lent table has room for its list, by the tables' lengths.
+abbrev pub Rooms : List ℕ → ℕ → ℕ → ℕ → ℕ → ℕ → Type 0
+Rooms s p i o n l = (name : ListName) → length (list name s) ≤ of_list p i o n l name
+
 -- What refuses to fill is what refuses the model, and else a table without room for its list.
 module _ (s : List ℕ) (p i o n l : ℕ) where
   pub fill_refused : {r : Refusal} → checked (refusals s) ≡ Err r → Err r ≡ fill_checked s p i o n l
@@ -122,13 +128,13 @@ module _ (s : List ℕ) (p i o n l : ℕ) where
       let c₃ = neither _ _ c₄.left in
       let c₂ = neither _ _ c₃.left in
       let c₁ = neither _ _ c₂.left in
-      record {
-        processors = less_false _ _ c₁.left;
-        io_apics = less_false _ _ c₁.right;
-        interrupt_source_overrides = less_false _ _ c₂.right;
-        nmi_sources = less_false _ _ c₃.right;
-        local_apic_nmi_lines = less_false _ _ c₄.right;
-      }
+      elim [
+        | processors ↦ less_false _ _ c₁.left
+        | io_apics ↦ less_false _ _ c₁.right
+        | interrupt_source_overrides ↦ less_false _ _ c₂.right
+        | nmi_sources ↦ less_false _ _ c₃.right
+        | local_apic_nmi_lines ↦ less_false _ _ c₄.right
+      ]
 
   pub fill_short : checked (refusals s) ≡ Ok tt → (Rooms s p i o n l → ⊥) → Err BufferTooShort ≡ fill_checked s p i o n l
   unfolding fill_checked fill_refusals
@@ -142,7 +148,7 @@ module _ (s : List ℕ) (p i o n l : ℕ) where
   unfolding fill_checked fill_refusals too_short
   fill_fits none rooms =
       let long : too_short s p i o n l ≡ false =
-      cc (less_no _ _ rooms.processors, less_no _ _ rooms.io_apics, less_no _ _ rooms.interrupt_source_overrides, less_no _ _ rooms.nmi_sources, less_no _ _ rooms.local_apic_nmi_lines) in
+      cc (less_no _ _ (rooms processors), less_no _ _ (rooms io_apics), less_no _ _ (rooms interrupt_source_overrides), less_no _ _ (rooms nmi_sources), less_no _ _ (rooms local_apic_nmi_lines)) in
       sym (append_passes (refusals s) _ none ∙ pass _ _ _ long clear)
 
 -- There is room where the counts of the model say so.
@@ -150,13 +156,13 @@ pub has_room :
     {s : List ℕ} {m : Model} (p i o n l : ℕ) → Accepted s m → m.processors ≤ p / 3 → m.io_apics ≤ i / 3 →
     m.interrupt_source_overrides ≤ o / 3 → m.nmi_sources ≤ n / 2 → m.local_apic_nmi_lines ≤ l / 2 → Rooms s p i o n l
 has_room p i o n l a hp hi ho hn hl =
-    record {
-      processors = omega (arith, a.words processors);
-      io_apics = omega (arith, a.words io_apics);
-      interrupt_source_overrides = omega (arith, a.words interrupt_source_overrides);
-      nmi_sources = omega (arith, a.words nmi_sources);
-      local_apic_nmi_lines = omega (arith, a.words local_apic_nmi_lines);
-    }
+    elim [
+      | processors ↦ omega (arith, a.words processors)
+      | io_apics ↦ omega (arith, a.words io_apics)
+      | interrupt_source_overrides ↦ omega (arith, a.words interrupt_source_overrides)
+      | nmi_sources ↦ omega (arith, a.words nmi_sources)
+      | local_apic_nmi_lines ↦ omega (arith, a.words local_apic_nmi_lines)
+    ]
 
 -- A refusal leaves every table as it was.
 pub untouched :

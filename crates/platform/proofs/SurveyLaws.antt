@@ -1,15 +1,17 @@
 -- Laws about going through all entries once.
 use Rattle.std.proofs.Common.{ℕ, ◌+◌, ◌-◌, ◌≤◌, ◌≡◌, refl, ap, ap₂, sym, ◌∙◌, List, [], ◌∷◌, Bool, true, false, ◌||◌, arith, length, zero-add}
-use Rattle.std.specs.Prelude.{Ok, Err, if◌then◌else◌}
+use Rattle.std.specs.Prelude.{Result, Ok, Err, if◌then◌else◌}
 use mathlib.Core.Bool.{or-false, or_assoc}
 use Rattle.refusal.specs.declared.Refusal.{Refusal}
+use Rattle.refusal.specs.declared.Refusal.TheVariants.{InconsistentEntry}
 use Rattle.field.specs.First.{when}
 use Rattle.field.proofs.FirstLaws.{when_hit, when_pass}
-use Rattle.madt.specs.Entries.{Item, entries, faulty}
+use Rattle.madt.specs.Entries.{entries, faulty}
 use Rattle.madt.specs.declared.Madt.{Madt}
 use Rattle.madt.specs.declared.MadtEntry.{MadtEntry}
-use Rattle.madt.proofs.EntryLaws.{Standing, entries_stand, entries_short, standing_rest, standing_fault}
+use Rattle.madt.proofs.EntryLaws.{Item, Standing, entries_stand, entries_short, standing_rest, standing_fault}
 use Rattle.platform.specs.declared.Model.{Model}
+use Rattle.platform.specs.declared.Seen.{Seen}
 use Rattle.platform.specs.Lists.{ListName, those}
 use Rattle.platform.specs.Lists.ListName.{processors, io_apics, interrupt_source_overrides, nmi_sources, local_apic_nmi_lines}
 use Rattle.platform.specs.Wrong.{wrong_at}
@@ -28,11 +30,22 @@ pub record Surveying (s : List ℕ) (m : Madt) (bad : Bool) (model : Model) (ite
   pub faults : faulty items ≡ faulty (entries s)
 
 -- At the start nothing is told and everything is left.
-pub survey_start :
-    (s : List ℕ) (m : Madt) {items : List Item} → items ≡ entries s →
-    Surveying s m false (record { known = false; local_apic_address = m.local_apic_address; also_has_legacy_pics = m.supports_8259; processors = 0; io_apics = 0; interrupt_source_overrides = 0; nmi_sources = 0; local_apic_nmi_lines = 0 }) items
-survey_start s m e =
-    rw e (record {
+abbrev pub untold : Madt → Model
+untold m =
+    record {
+      known = false;
+      local_apic_address = m.local_apic_address;
+      also_has_legacy_pics = m.supports_8259;
+      processors = 0;
+      io_apics = 0;
+      interrupt_source_overrides = 0;
+      nmi_sources = 0;
+      local_apic_nmi_lines = 0;
+    }
+
+pub survey_start : (s : List ℕ) (m : Madt) → Surveying s m false (untold m) (entries s)
+survey_start s m =
+    record {
       standing = entries_stand s;
       counted = elim [
         | processors ↦ zero-add _
@@ -46,7 +59,7 @@ survey_start s m e =
       addressed = refl;
       legacy = refl;
       faults = refl;
-    })
+    }
 
 -- One more record, where the entry goes to the list.
 counted_entry : (k n : ℕ) (t : Bool) (e : MadtEntry) (those : List MadtEntry) → k + length (when t (e ∷ those) those) ≡ n → k + (if t then 1 else 0) + length those ≡ n
@@ -116,4 +129,8 @@ module _ {s : List ℕ} {m : Madt} {bad : Bool} {model : Model} where
       }
       in
       let same : made ≡ model_with s m = cc in
-      ap₂ (λ bad model. Ok (record { wrong = bad; model = model })) mistaken same ∙ sym (when_pass _ _ _ (sym was.faults))
+      let seen : Seen = record { wrong = some (wrong s) (entries s); model = model_with s m } in
+      let told : ◌≡◌ {A = Result Seen Refusal} (Ok (record { wrong = bad; model = model })) (Ok seen) =
+      ap₂ (λ bad model. Ok (record { wrong = bad; model = model })) mistaken same
+      in
+      told ∙ sym (when_pass _ (Err InconsistentEntry) (Ok seen) (sym was.faults))

@@ -1,5 +1,5 @@
 -- What the contracts of inner functions cite. No promise to a caller rests on these.
-use Rattle.std.specs.Prelude.{ℕ, ◌+◌, ◌≤◌, ◌≡◌, List, ◌||◌, length, Result, Ok, Err, if◌then◌else◌, ◌==◌}
+use Rattle.std.specs.Prelude.{ℕ, ◌+◌, List, ◌||◌, Result, Ok, Err, if◌then◌else◌, ◌==◌}
 use Rattle.refusal.specs.declared.Refusal.{Refusal}
 use Rattle.refusal.specs.declared.Refusal.TheVariants.{InconsistentEntry}
 use Rattle.field.specs.First.{when}
@@ -10,9 +10,8 @@ use Rattle.platform.specs.declared.Model.{Model}
 use Rattle.platform.specs.declared.Seen.{Seen}
 use Rattle.platform.specs.Lists.{ListName, goes_to, of_model}
 use Rattle.platform.specs.Lists.ListName.{processors, io_apics, interrupt_source_overrides, nmi_sources, local_apic_nmi_lines}
-use Rattle.platform.specs.Records.{waiting, running, list}
+use Rattle.platform.specs.Records.{waiting, running}
 use Rattle.platform.specs.Model.{some, wrong, model_with, address_after}
-use Rattle.platform.specs.Fill.{over}
 
 -- how many records the model has in a list
 abbrev pub count : Model → ListName → ℕ
@@ -44,19 +43,3 @@ seen_of s m =
 -- the state of the next processor that is enabled, where so many words are written already
 abbrev pub enabled_at : ℕ → ℕ
 enabled_at to = if to == 0 then running else waiting
-
--- every lent table has room for its list, by the tables' lengths
-pub record Rooms (s : List ℕ) (p i o n l : ℕ) : Type 0 where
-  pub processors : length (list processors s) ≤ p
-  pub io_apics : length (list io_apics s) ≤ i
-  pub interrupt_source_overrides : length (list interrupt_source_overrides s) ≤ o
-  pub nmi_sources : length (list nmi_sources s) ≤ n
-  pub local_apic_nmi_lines : length (list local_apic_nmi_lines s) ≤ l
-
--- each table after it is filled
-pub record Lists (s p p' i i' o o' n n' l l' : List ℕ) : Type 0 where
-  pub processors : p' ≡ over (list processors s) p
-  pub io_apics : i' ≡ over (list io_apics s) i
-  pub interrupt_source_overrides : o' ≡ over (list interrupt_source_overrides s) o
-  pub nmi_sources : n' ≡ over (list nmi_sources s) n
-  pub local_apic_nmi_lines : l' ≡ over (list local_apic_nmi_lines s) l

@@ -1,7 +1,7 @@
 -- Which entries of the MADT belong to the model, and to which of its lists.
-use Rattle.std.specs.Prelude.{List, [], ◌∷◌, Bool, true, false, Ok, Err}
+use Rattle.std.specs.Prelude.{List, [], ◌∷◌, Bool, true, false, Result, Ok, Err}
+use Rattle.refusal.specs.declared.Refusal.{Refusal}
 use Rattle.field.specs.First.{when}
-use Rattle.madt.specs.Entries.{Item}
 use Rattle.madt.specs.declared.MadtEntry.{MadtEntry}
 use Rattle.madt.specs.declared.Kind.{Kind}
 use Rattle.madt.specs.declared.Kind.TheVariants.{
@@ -44,7 +44,7 @@ of_model Reserved = false
 of_model _ = true
 
 -- the entries that go to the list, in order
-unfoldable pub those : ListName → List Item → List MadtEntry
+unfoldable pub those : ListName → List (Result MadtEntry Refusal) → List MadtEntry
 those l [] = []
 those l (Ok e ∷ items) = when (goes_to e.kind l) (e ∷ those l items) (those l items)
 those l (Err r ∷ items) = those l items

@@ -7,7 +7,8 @@ use Rattle.field.specs.First.Reason.{◌gives◌}
 use Rattle.field.specs.Then.{and_then}
 use Rattle.madt.specs.Fields.{value, mailbox_address}
 use Rattle.madt.specs.Fixed.{not_madt}
-use Rattle.madt.specs.Entries.{Item, entries, faulty}
+use Rattle.madt.specs.Entries.{entries, faulty}
+use Rattle.madt.specs.declared.MadtEntry.{MadtEntry}
 use Rattle.madt.specs.declared.Kind.{Kind}
 use Rattle.madt.specs.declared.Kind.TheVariants.{MultiprocessorWakeup}
 
@@ -16,7 +17,7 @@ is_wakeup MultiprocessorWakeup = true
 is_wakeup _ = false
 
 -- the mailbox of the first Multiprocessor Wakeup entry, 15 where there is none
-unfoldable pub first_mailbox : List ℕ → List Item → Result ℕ Refusal
+unfoldable pub first_mailbox : List ℕ → List (Result MadtEntry Refusal) → Result ℕ Refusal
 first_mailbox s [] = Err InconsistentEntry
 first_mailbox s (Ok e ∷ items) = when (is_wakeup e.kind) (Ok (value s e.at mailbox_address)) (first_mailbox s items)
 first_mailbox s (Err r ∷ items) = Err r

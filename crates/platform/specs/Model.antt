@@ -8,7 +8,7 @@ use Rattle.field.specs.First.Reason.{◌gives◌}
 use Rattle.field.specs.Then.{and_then}
 use Rattle.madt.specs.Fields.{value, address_override}
 use Rattle.madt.specs.Fixed.{not_madt, madt_of}
-use Rattle.madt.specs.Entries.{Item, entries, faulty}
+use Rattle.madt.specs.Entries.{entries, faulty}
 use Rattle.madt.specs.declared.Madt.{Madt}
 use Rattle.madt.specs.declared.MadtEntry.{MadtEntry}
 use Rattle.madt.specs.declared.Kind.{Kind}
@@ -19,7 +19,7 @@ use Rattle.platform.specs.Lists.ListName.{processors, io_apics, interrupt_source
 use Rattle.platform.specs.Wrong.{wrong_at}
 
 -- some entry has the property
-unfoldable pub some : (MadtEntry → Bool) → List Item → Bool
+unfoldable pub some : (MadtEntry → Bool) → List (Result MadtEntry Refusal) → Bool
 some property [] = false
 some property (Ok e ∷ items) = property e || some property items
 some property (Err r ∷ items) = some property items
@@ -38,7 +38,7 @@ address_after s address at LocalApicAddressOverride = value s at address_overrid
 address_after s address at _ = address
 
 -- the local address after all entries, so that the last override wins
-unfoldable pub last_address : List ℕ → ℕ → List Item → ℕ
+unfoldable pub last_address : List ℕ → ℕ → List (Result MadtEntry Refusal) → ℕ
 last_address s address [] = address
 last_address s address (Ok e ∷ items) = last_address s (address_after s address e.at e.kind) items
 last_address s address (Err r ∷ items) = last_address s address items

@@ -34,7 +34,7 @@ use Rattle.madt.specs.declared.Kind.TheVariants.{
   X2ApicNmi,
 }
 use Rattle.platform.specs.declared.Record.{Record}
-use Rattle.platform.specs.declared.Record.TheVariants.{Processor, Controller, Override, Nmi, NmiLine}
+use Rattle.platform.specs.declared.Record.TheVariants.{Processor, IoApic as IoApicRecord, Override, NmiSource as NmiSourceRecord, NmiLine}
 use Rattle.platform.specs.Lists.{ListName, those}
 
 -- the states of a processor
@@ -64,11 +64,11 @@ record_of s enabled at LocalApic =
 record_of s enabled at LocalX2Apic =
     Some (Processor (value s at local_x2apic_uid ∷ value s at local_x2apic_id ∷ state_of (value s at local_x2apic_flags) enabled ∷ []))
 record_of s enabled at IoApic =
-    Some (Controller (value s at io_apic_id ∷ value s at io_apic_address ∷ value s at io_apic_interrupt_base ∷ []))
+    Some (IoApicRecord (value s at io_apic_id ∷ value s at io_apic_address ∷ value s at io_apic_interrupt_base ∷ []))
 record_of s enabled at InterruptSourceOverride =
     Some (Override (value s at override_source ∷ value s at override_interrupt ∷ (value s at override_flags % 16) ∷ []))
 record_of s enabled at NmiSource =
-    Some (Nmi (value s at nmi_source_interrupt ∷ (value s at nmi_source_flags % 16) ∷ []))
+    Some (NmiSourceRecord (value s at nmi_source_interrupt ∷ (value s at nmi_source_flags % 16) ∷ []))
 record_of s enabled at LocalApicNmi =
     Some (NmiLine (uid_or_all (value s at local_apic_nmi_uid) ∷ value s at local_apic_nmi_line ∷ []))
 record_of s enabled at X2ApicNmi = Some (NmiLine (value s at x2apic_nmi_uid ∷ value s at x2apic_nmi_line ∷ []))
@@ -78,9 +78,9 @@ record_of s enabled at _ = None
 abbrev pub spelled : Option Record → List ℕ
 spelled None = []
 spelled (Some (Processor words)) = words
-spelled (Some (Controller words)) = words
+spelled (Some (IoApicRecord words)) = words
 spelled (Some (Override words)) = words
-spelled (Some (Nmi words)) = words
+spelled (Some (NmiSourceRecord words)) = words
 spelled (Some (NmiLine words)) = words
 
 -- The records of some entries, one after the other. The state of the first that is enabled is given, the others wait.

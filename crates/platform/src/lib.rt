@@ -3,18 +3,17 @@
 // table, and has an answer for any slice.
 #![tactic(auto)]
 
-ghost use Rattle.std.specs.Prelude.{◌≡◌, false, ◌+◌, ◌<◌, ◌≤◌, ◌%◌, ◌++◌, length, take, drop};
+ghost use Rattle.std.specs.Prelude.{◌≡◌, ◌+◌, ◌<◌, ◌≤◌, ◌%◌, ◌++◌, length, take, drop};
 ghost use Rattle.field.specs.Number.{number};
 ghost use Rattle.madt.specs.Kinds.{least_length};
-ghost use Rattle.madt.specs.Entries.{entries, faulty};
-ghost use Rattle.madt.specs.declared.Kind.TheVariants.{LocalApic, LocalX2Apic, IoApic, InterruptSourceOverride, NmiSource, LocalApicNmi, X2ApicNmi};
+ghost use Rattle.madt.specs.Entries.{entries};
 ghost use Rattle.platform.specs.Lists.{ListName, of_model};
 ghost use Rattle.platform.specs.Records.{state_of, uid_or_all, record_of};
-ghost use Rattle.platform.specs.Wrong.{wrong_flags, wrong_bus, wrong_line, wrong_at};
+ghost use Rattle.platform.specs.Wrong.{wrong_flags, wrong_at};
 ghost use Rattle.platform.specs.Model.{model_of};
 ghost use Rattle.platform.specs.Fill.{Filled};
 ghost use Rattle.platform.specs.Mailbox.{first_mailbox, mailbox_of};
-ghost use Rattle.platform.specs.Inner.{count, with_entry, seen_of, enabled_at, Rooms, Lists};
+ghost use Rattle.platform.specs.Inner.{count, with_entry, seen_of, enabled_at};
 
 use madt::{Kind, Madt, MadtEntry};
 use refusal::Refusal;
@@ -50,62 +49,47 @@ fn wrong_flags(table: &[u8], at: usize) -> bool
     ensures { result ≡ wrong_flags (number table.now at 2) }
 {
     let flags = field::u16_at(table, at);
-    (flags % 4 == 2) | (flags / 4 % 4 == 2)
+    flags % 4 == 2 || flags / 4 % 4 == 2
 }
 
-// Only the ISA bus has overrides.
-fn wrong_bus(table: &[u8], at: usize) -> bool
-    requires { at + 1 ≤ length table.now }
-    ensures { result ≡ wrong_bus (number table.now at 1) }
-{
-    field::u8_at(table, at) != 0
-}
-
-// A local interrupt controller has the lines 0 and 1.
-fn wrong_line(table: &[u8], at: usize) -> bool
-    requires { at + 1 ≤ length table.now }
-    ensures { result ≡ wrong_line (number table.now at 1) }
-{
-    1 < field::u8_at(table, at)
-}
-
-// Whether what an entry says can not be.
+// Whether what an entry says can not be. Only the ISA bus, 0, has overrides, and a local interrupt controller has the
+// lines 0 and 1.
 fn wrong_at(table: &[u8], e: MadtEntry) -> bool
     requires { e.at + least_length e.kind ≤ length table.now }
     ensures { result ≡ wrong_at table.now e.at e.kind }
 {
     match e.kind {
         Kind::InterruptSourceOverride => {
-            wrong_bus(table, e.at + 2) | wrong_flags(table, e.at + 8)
+            field::u8_at(table, e.at + 2) != 0 || wrong_flags(table, e.at + 8)
         }
         Kind::NmiSource => wrong_flags(table, e.at + 2),
-        Kind::LocalApicNmi => wrong_line(table, e.at + 5),
-        Kind::X2ApicNmi => wrong_line(table, e.at + 8),
+        Kind::LocalApicNmi => 1 < field::u8_at(table, e.at + 5),
+        Kind::X2ApicNmi => 1 < field::u8_at(table, e.at + 8),
         _ => false,
     }
 }
 
-// The model with one more entry taken in: a processor, controller, override or interrupt is counted, and an address
-// override replaces the address that was there before.
-fn with_entry(table: &[u8], model: Model, e: MadtEntry) -> Model
-    requires inside { e.at + least_length e.kind ≤ length table.now }
-    requires fits { (l : ListName) → count model l < usize.MAX }
-    ensures { result ≡ with_entry table.now model e }
-{
-    let mut model = model;
-    model.known |= of_model(e.kind);
-    match e.kind {
-        Kind::LocalApic | Kind::LocalX2Apic => model.processors += 1,
-        Kind::IoApic => model.io_apics += 1,
-        Kind::InterruptSourceOverride => model.interrupt_source_overrides += 1,
-        Kind::NmiSource => model.nmi_sources += 1,
-        Kind::LocalApicNmi | Kind::X2ApicNmi => model.local_apic_nmi_lines += 1,
-        Kind::LocalApicAddressOverride => {
-            model.local_apic_address = field::u64_at(table, e.at + 4);
+impl Model {
+    // Takes in one more entry: a processor, controller, override or interrupt is counted, and an address override
+    // replaces the address that was there before.
+    fn take_in(&mut self, table: &[u8], e: MadtEntry)
+        requires inside { e.at + least_length e.kind ≤ length table.now }
+        requires fits { (l : ListName) → count self.old l < usize.MAX }
+        ensures { self.new ≡ with_entry table.now self.old e }
+    {
+        self.known |= of_model(e.kind);
+        match e.kind {
+            Kind::LocalApic | Kind::LocalX2Apic => self.processors += 1,
+            Kind::IoApic => self.io_apics += 1,
+            Kind::InterruptSourceOverride => self.interrupt_source_overrides += 1,
+            Kind::NmiSource => self.nmi_sources += 1,
+            Kind::LocalApicNmi | Kind::X2ApicNmi => self.local_apic_nmi_lines += 1,
+            Kind::LocalApicAddressOverride => {
+                self.local_apic_address = field::u64_at(table, e.at + 4);
+            }
+            _ => {}
         }
-        _ => {}
     }
-    model
 }
 
 // What going through all entries tells: whether an entry is wrong, and the model.
@@ -130,10 +114,10 @@ fn survey(table: &[u8], m: Madt) -> Result<Seen, Refusal>
         nmi_sources: 0,
         local_apic_nmi_lines: 0,
     };
-    for entry in madt::entries(table) {
-        let e = entry?;
-        wrong = wrong | wrong_at(table, e);
-        model = with_entry(table, model, e);
+    for item in madt::entries(table) {
+        let e = item?;
+        wrong |= wrong_at(table, e);
+        model.take_in(table, e);
     }
     Ok(Seen { wrong, model })
 }
@@ -159,9 +143,9 @@ pub fn interrupt_model(table: &[u8]) -> Result<Model, Refusal>
 #[derive(Clone, Copy)]
 enum Record {
     Processor([u32; 3]),
-    Controller([u32; 3]),
+    IoApic([u32; 3]),
     Override([u32; 3]),
-    Nmi([u32; 2]),
+    NmiSource([u32; 2]),
     NmiLine([u32; 2]),
 }
 
@@ -208,7 +192,7 @@ fn record_of(table: &[u8], enabled: u32, e: MadtEntry) -> Option<Record>
             field::u32_at(table, at + 4),
             state(table, at + 8, enabled),
         ])),
-        Kind::IoApic => Some(Record::Controller([
+        Kind::IoApic => Some(Record::IoApic([
             field::u8_at(table, at + 2) as u32,
             field::u32_at(table, at + 4),
             field::u32_at(table, at + 8),
@@ -218,7 +202,7 @@ fn record_of(table: &[u8], enabled: u32, e: MadtEntry) -> Option<Record>
             field::u32_at(table, at + 4),
             inti_flags(table, at + 8),
         ])),
-        Kind::NmiSource => Some(Record::Nmi([
+        Kind::NmiSource => Some(Record::NmiSource([
             field::u32_at(table, at + 4),
             inti_flags(table, at + 2),
         ])),
@@ -253,41 +237,6 @@ fn enabled_at(to: usize) -> u32
     if to == 0 { 2 } else { 1 }
 }
 
-// Fills tables that are known to have room, from a table that is known to have no fault.
-fn fill_lists(
-    table: &[u8],
-    processors: &mut [u32],
-    io_apics: &mut [u32],
-    interrupt_source_overrides: &mut [u32],
-    nmi_sources: &mut [u32],
-    local_apic_nmi_lines: &mut [u32],
-)
-    requires faultless { faulty (entries table.now) ≡ false }
-    requires rooms { Rooms table.now (length processors.old) (length io_apics.old) (length interrupt_source_overrides.old)
-        (length nmi_sources.old) (length local_apic_nmi_lines.old) }
-    ensures { Lists table.now processors.old processors.new io_apics.old
-        io_apics.new interrupt_source_overrides.old interrupt_source_overrides.new
-        nmi_sources.old nmi_sources.new local_apic_nmi_lines.old
-        local_apic_nmi_lines.new }
-{
-    let mut p = 0;
-    let mut i = 0;
-    let mut o = 0;
-    let mut n = 0;
-    let mut l = 0;
-    for entry in madt::entries(table) {
-        let e = entry.unwrap();
-        match record_of(table, enabled_at(p), e) {
-            Some(Record::Processor(words)) => p = put(processors, p, &words),
-            Some(Record::Controller(words)) => i = put(io_apics, i, &words),
-            Some(Record::Override(words)) => o = put(interrupt_source_overrides, o, &words),
-            Some(Record::Nmi(words)) => n = put(nmi_sources, n, &words),
-            Some(Record::NmiLine(words)) => l = put(local_apic_nmi_lines, l, &words),
-            None => {}
-        }
-    }
-}
-
 // Fills five lent tables with the records of the model's lists: processors (number, controller id, state: 0 disabled,
 // 1 waiting, 2 running), I/O controllers (id, address, interrupt base), overrides (source, interrupt, polarity and
 // trigger), NMI sources (interrupt, polarity and trigger) and NMI lines (processor or 0xffffffff for all, line). What
@@ -314,14 +263,32 @@ pub fn fill(
     {
         return Err(Refusal::BufferTooShort);
     }
-    fill_lists(
-        table,
-        processors,
-        io_apics,
-        interrupt_source_overrides,
-        nmi_sources,
-        local_apic_nmi_lines,
-    );
+    // Nothing was written so far. From here on the table has no fault, and each list has room.
+    let mut next_processor = 0;
+    let mut next_io_apic = 0;
+    let mut next_override = 0;
+    let mut next_nmi_source = 0;
+    let mut next_nmi_line = 0;
+    for found in madt::entries(table) {
+        match record_of(table, enabled_at(next_processor), found.unwrap()) {
+            Some(Record::Processor(words)) => {
+                next_processor = put(processors, next_processor, &words);
+            }
+            Some(Record::IoApic(words)) => {
+                next_io_apic = put(io_apics, next_io_apic, &words);
+            }
+            Some(Record::Override(words)) => {
+                next_override = put(interrupt_source_overrides, next_override, &words);
+            }
+            Some(Record::NmiSource(words)) => {
+                next_nmi_source = put(nmi_sources, next_nmi_source, &words);
+            }
+            Some(Record::NmiLine(words)) => {
+                next_nmi_line = put(local_apic_nmi_lines, next_nmi_line, &words);
+            }
+            None => {}
+        }
+    }
     Ok(())
 }
 

@@ -5,7 +5,8 @@ use Rattle.std.proofs.lemmas.Iterator.Adapters.{option_map_id}
 use Rattle.std.proofs.lemmas.Iterator.Consumers.{nth_from_yields_List, YieldsList-from_first}
 use Rattle.refusal.specs.declared.Refusal.TheVariants.{NotThere}
 use Rattle.field.proofs.ThenLaws.{then_ok}
-use Rattle.madt.specs.Entries.{Item, entries, nth, entry_of}
+use Rattle.madt.specs.Entries.{entries, nth, entry_of}
+use Rattle.madt.proofs.EntryLaws.{Item}
 use Rattle.madt.specs.Walk.{left}
 use Rattle.madt.proofs.entry.Goals as goal
 

@@ -1,11 +1,17 @@
 -- `fill` meets its contract: what refuses does so before anything is written, and where nothing does there is room.
-use Rattle.std.proofs.Common.{◌∙◌, sym, arith, length}
+use Rattle.std.proofs.Common.{◌≡◌, ◌∙◌, refl, ap, sym, subst, arith, length}
 use Rattle.std.proofs.lemmas.Result.{err_from_is_err_and}
+use Rattle.std.specs.Prelude.{Option, Some}
+use Rattle.madt.specs.Entries.{faulty}
+use Rattle.madt.specs.Walk.{left}
+use Rattle.madt.proofs.EntryLaws.{Standing, entries_stand, standing_rest, sound_entry, sound_rest}
+use Rattle.platform.specs.declared.Record.{Record}
 use Rattle.platform.specs.Lists.ListName.{processors, io_apics, interrupt_source_overrides, nmi_sources, local_apic_nmi_lines}
-use Rattle.platform.specs.Inner.{Rooms}
-use Rattle.platform.proofs.RoomLaws.{accepted, refused, sound, fill_refused, fill_short, fill_fits, has_room, untouched}
+use Rattle.platform.proofs.RoomLaws.{Rooms, accepted, refused, sound, fill_refused, fill_short, fill_fits, has_room, untouched}
+use Rattle.platform.proofs.FillLaws.{Turn, fill_start, fill_end, turn, fill_room, fill_mine, fill_other}
 use Rattle.platform.proofs.fill.Goals as goal
 use Rattle.platform.proofs.fill.Goals.{
+  After-record_of,
   then-processors-m-via-then-processors-m,
   then-processors-m-via-else-processors-m+then-io_apics-m,
   then-processors-m-via-else-processors-m+else-io_apics-m+then-interrupt_source_overrides-m,
@@ -23,33 +29,156 @@ returns-then-processors-m c =
     let a = accepted (sym c.interrupt_model.ensures ∙ c.in_ok-m.was) in
     let short : Rooms c.args.table.now (length c.args.processors.now) (length c.args.io_apics.now) (length c.args.interrupt_source_overrides.now) (length c.args.nmi_sources.now) (length c.args.local_apic_nmi_lines.now) → ⊥ =
     λ rooms. elim c.then-processors-m.branch [
-      | then-processors-m-via-then-processors-m w ↦ omega (arith, a.words processors)
-      | then-processors-m-via-else-processors-m+then-io_apics-m w ↦ omega (arith, a.words io_apics)
-      | then-processors-m-via-else-processors-m+else-io_apics-m+then-interrupt_source_overrides-m w ↦ omega (arith, a.words interrupt_source_overrides)
-      | then-processors-m-via-else-processors-m+else-io_apics-m+else-interrupt_source_overrides-m+then-nmi_sources-m w ↦ omega (arith, a.words nmi_sources)
-      | then-processors-m-via-else-processors-m+else-io_apics-m+else-interrupt_source_overrides-m+else-nmi_sources-m+then-local_apic_nmi_lines-m w ↦ omega (arith, a.words local_apic_nmi_lines)
+      | then-processors-m-via-then-processors-m w ↦ omega (arith, a.words processors, rooms processors)
+      | then-processors-m-via-else-processors-m+then-io_apics-m w ↦ omega (arith, a.words io_apics, rooms io_apics)
+      | then-processors-m-via-else-processors-m+else-io_apics-m+then-interrupt_source_overrides-m w ↦ omega (arith, a.words interrupt_source_overrides, rooms interrupt_source_overrides)
+      | then-processors-m-via-else-processors-m+else-io_apics-m+else-interrupt_source_overrides-m+then-nmi_sources-m w ↦ omega (arith, a.words nmi_sources, rooms nmi_sources)
+      | then-processors-m-via-else-processors-m+else-io_apics-m+else-interrupt_source_overrides-m+else-nmi_sources-m+then-local_apic_nmi_lines-m w ↦ omega (arith, a.words local_apic_nmi_lines, rooms local_apic_nmi_lines)
     ]
     in
     untouched (fill_short _ _ _ _ _ _ a.none short)
 
-pub fill_lists-requires-clause-faultless : goal.fill_lists-requires-clause-faultless
-fill_lists-requires-clause-faultless c = sound _ (accepted (sym c.interrupt_model.ensures ∙ c.in_ok-m.was)).none
+turned :
+    (c : After-record_of) {r : Option Record} → c.record_of.result ≡ r →
+    Turn c.args.table.now (left c.loop-found.found-iterator) (left c.next.new.self) c.loop-found.next_processor c.unwrap.result r
+turned c same = turn c.in-Some.ensures.steps c.unwrap.ensures c.enabled_at.ensures c.record_of.ensures same
 
-pub fill_lists-requires-clause-rooms : goal.fill_lists-requires-clause-rooms
-fill_lists-requires-clause-rooms c =
-    has_room _ _ _ _ _ (accepted (sym c.interrupt_model.ensures ∙ c.in_ok-m.was)) c.if-processors-m.false c.if-io_apics-m.false
-    c.if-interrupt_source_overrides-m.false c.if-nmi_sources-m.false c.if-local_apic_nmi_lines-m.false
+pub loop-found-init : goal.loop-found-init
+loop-found-init c =
+    let a = accepted (sym c.interrupt_model.ensures ∙ c.in_ok-m.was) in
+    let rooms =
+    has_room _ _ _ _ _ a c.if-processors-m.false c.if-io_apics-m.false c.if-interrupt_source_overrides-m.false c.if-nmi_sources-m.false
+    c.if-local_apic_nmi_lines-m.false
+    in
+    let q = ap left c.into_iter-found-iterator.ensures.into_iter_gives ∙ c.entries-found-items.ensures in
+    record {
+      standing = subst (Standing _) (sym q) (entries_stand _);
+      faultless = ap faulty q ∙ sound _ a.none;
+      filling = elim [ processors ↦ fill_start processors _ _ q (rooms processors) | name ↦ fill_start name _ _ q (rooms name) ];
+    }
+
+pub unwrap-requires : goal.unwrap-requires
+unwrap-requires c = sound_entry c.loop-found.invariant.faultless c.in-Some.ensures.steps
+
+pub put-next_processor-requires : goal.put-next_processor-requires
+put-next_processor-requires c =
+    let t = turned (goal.at.put-next_processor-requires c).After-record_of (c.in-Some-Processor.is ∙ ap Some c.in-Some-Processor.field-0-is) in
+    fill_room t processors refl (λ _. refl) (c.loop-found.invariant.filling processors)
+
+pub loop-found-preserved-in-Some-Processor : goal.loop-found-preserved-in-Some-Processor
+loop-found-preserved-in-Some-Processor c =
+    let t = turned (goal.at.loop-found-preserved-in-Some-Processor c).After-record_of (c.in-Some-Processor.is ∙ ap Some c.in-Some-Processor.field-0-is) in
+    let was = c.loop-found.invariant in
+    let put = c.put-next_processor.ensures in
+    record {
+      standing = standing_rest was.standing c.in-Some.ensures.steps;
+      faultless = sound_rest was.faultless c.in-Some.ensures.steps;
+      filling = elim [
+        | processors ↦ fill_mine t processors refl (λ _. refl) (was.filling processors) put.next put.written put.kept c.put-next_processor.auto.out
+        | name ↦ fill_other t name refl (was.filling name)
+      ];
+    }
+
+pub put-next_io_apic-requires : goal.put-next_io_apic-requires
+put-next_io_apic-requires c =
+    let t = turned (goal.at.put-next_io_apic-requires c).After-record_of (c.in-Some-IoApic.is ∙ ap Some c.in-Some-IoApic.field-0-is) in
+    fill_room t io_apics refl (λ z. cc) (c.loop-found.invariant.filling io_apics)
+
+pub loop-found-preserved-in-Some-IoApic : goal.loop-found-preserved-in-Some-IoApic
+loop-found-preserved-in-Some-IoApic c =
+    let t = turned (goal.at.loop-found-preserved-in-Some-IoApic c).After-record_of (c.in-Some-IoApic.is ∙ ap Some c.in-Some-IoApic.field-0-is) in
+    let was = c.loop-found.invariant in
+    let put = c.put-next_io_apic.ensures in
+    record {
+      standing = standing_rest was.standing c.in-Some.ensures.steps;
+      faultless = sound_rest was.faultless c.in-Some.ensures.steps;
+      filling = elim [
+        | io_apics ↦ fill_mine t io_apics refl (λ z. cc) (was.filling io_apics) put.next put.written put.kept c.put-next_io_apic.auto.out
+        | name ↦ fill_other t name refl (was.filling name)
+      ];
+    }
+
+pub put-next_override-requires : goal.put-next_override-requires
+put-next_override-requires c =
+    let t = turned (goal.at.put-next_override-requires c).After-record_of (c.in-Some-Override.is ∙ ap Some c.in-Some-Override.field-0-is) in
+    fill_room t interrupt_source_overrides refl (λ z. cc) (c.loop-found.invariant.filling interrupt_source_overrides)
+
+pub loop-found-preserved-in-Some-Override : goal.loop-found-preserved-in-Some-Override
+loop-found-preserved-in-Some-Override c =
+    let t = turned (goal.at.loop-found-preserved-in-Some-Override c).After-record_of (c.in-Some-Override.is ∙ ap Some c.in-Some-Override.field-0-is) in
+    let was = c.loop-found.invariant in
+    let put = c.put-next_override.ensures in
+    record {
+      standing = standing_rest was.standing c.in-Some.ensures.steps;
+      faultless = sound_rest was.faultless c.in-Some.ensures.steps;
+      filling = elim [
+        | interrupt_source_overrides ↦ fill_mine t interrupt_source_overrides refl (λ z. cc) (was.filling interrupt_source_overrides) put.next put.written put.kept c.put-next_override.auto.out
+        | name ↦ fill_other t name refl (was.filling name)
+      ];
+    }
+
+pub put-next_nmi_source-requires : goal.put-next_nmi_source-requires
+put-next_nmi_source-requires c =
+    let t = turned (goal.at.put-next_nmi_source-requires c).After-record_of (c.in-Some-NmiSource.is ∙ ap Some c.in-Some-NmiSource.field-0-is) in
+    fill_room t nmi_sources refl (λ z. cc) (c.loop-found.invariant.filling nmi_sources)
+
+pub loop-found-preserved-in-Some-NmiSource : goal.loop-found-preserved-in-Some-NmiSource
+loop-found-preserved-in-Some-NmiSource c =
+    let t = turned (goal.at.loop-found-preserved-in-Some-NmiSource c).After-record_of (c.in-Some-NmiSource.is ∙ ap Some c.in-Some-NmiSource.field-0-is) in
+    let was = c.loop-found.invariant in
+    let put = c.put-next_nmi_source.ensures in
+    record {
+      standing = standing_rest was.standing c.in-Some.ensures.steps;
+      faultless = sound_rest was.faultless c.in-Some.ensures.steps;
+      filling = elim [
+        | nmi_sources ↦ fill_mine t nmi_sources refl (λ z. cc) (was.filling nmi_sources) put.next put.written put.kept c.put-next_nmi_source.auto.out
+        | name ↦ fill_other t name refl (was.filling name)
+      ];
+    }
+
+pub put-next_nmi_line-requires : goal.put-next_nmi_line-requires
+put-next_nmi_line-requires c =
+    let t = turned (goal.at.put-next_nmi_line-requires c).After-record_of (c.in-Some-NmiLine.is ∙ ap Some c.in-Some-NmiLine.field-0-is) in
+    fill_room t local_apic_nmi_lines refl (λ z. cc) (c.loop-found.invariant.filling local_apic_nmi_lines)
+
+pub loop-found-preserved-in-Some-NmiLine : goal.loop-found-preserved-in-Some-NmiLine
+loop-found-preserved-in-Some-NmiLine c =
+    let t = turned (goal.at.loop-found-preserved-in-Some-NmiLine c).After-record_of (c.in-Some-NmiLine.is ∙ ap Some c.in-Some-NmiLine.field-0-is) in
+    let was = c.loop-found.invariant in
+    let put = c.put-next_nmi_line.ensures in
+    record {
+      standing = standing_rest was.standing c.in-Some.ensures.steps;
+      faultless = sound_rest was.faultless c.in-Some.ensures.steps;
+      filling = elim [
+        | local_apic_nmi_lines ↦ fill_mine t local_apic_nmi_lines refl (λ z. cc) (was.filling local_apic_nmi_lines) put.next put.written put.kept c.put-next_nmi_line.auto.out
+        | name ↦ fill_other t name refl (was.filling name)
+      ];
+    }
+
+pub loop-found-preserved : goal.loop-found-preserved
+loop-found-preserved c =
+    let t = turned (goal.at.loop-found-preserved c).After-record_of c.in-None-record_of.is in
+    let was = c.loop-found.invariant in
+    record {
+      standing = standing_rest was.standing c.in-Some.ensures.steps;
+      faultless = sound_rest was.faultless c.in-Some.ensures.steps;
+      filling = λ name. fill_other t name refl (was.filling name);
+    }
 
 pub returns : goal.returns
 returns c =
     let a = accepted (sym c.interrupt_model.ensures ∙ c.in_ok-m.was) in
-    let rooms = has_room _ _ _ _ _ a c.if-processors-m.false c.if-io_apics-m.false c.if-interrupt_source_overrides-m.false c.if-nmi_sources-m.false c.if-local_apic_nmi_lines-m.false in
-    let all = c.fill_lists.ensures in
+    let rooms =
+    has_room _ _ _ _ _ a c.if-processors-m.false c.if-io_apics-m.false c.if-interrupt_source_overrides-m.false c.if-nmi_sources-m.false
+    c.if-local_apic_nmi_lines-m.false
+    in
+    let filling = c.loop-found.invariant.filling in
+    let none = c.in-None.ensures.steps.0 in
     record {
       answer = fill_fits _ _ _ _ _ _ a.none rooms;
-      processors = all.processors;
-      io_apics = all.io_apics;
-      interrupt_source_overrides = all.interrupt_source_overrides;
-      nmi_sources = all.nmi_sources;
-      local_apic_nmi_lines = all.local_apic_nmi_lines;
+      processors = fill_end (filling processors) none;
+      io_apics = fill_end (filling io_apics) none;
+      interrupt_source_overrides = fill_end (filling interrupt_source_overrides) none;
+      nmi_sources = fill_end (filling nmi_sources) none;
+      local_apic_nmi_lines = fill_end (filling local_apic_nmi_lines) none;
     }

@@ -3,5 +3,5 @@ use Rattle.madt.specs.Walk.{left}
 use Rattle.platform.proofs.SurveyLaws.{Surveying}
 use Rattle.platform.proofs.survey.Given as goal
 
-abbrev pub invariant-loop-entry : goal.invariant-loop-entry
-invariant-loop-entry l = Surveying l.table l.fn.m l.wrong l.model (left l.entry-iterator)
+abbrev pub invariant-loop-item : goal.invariant-loop-item
+invariant-loop-item l = Surveying l.table l.fn.m l.wrong l.model (left l.item-iterator)

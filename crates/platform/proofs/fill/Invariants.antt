@@ -1,0 +1,21 @@
+-- `fill` meets its contract. The loop's invariant: no fault is to come, and each table, with what is to be written to it yet, is
+-- what it has to be.
+use Rattle.std.proofs.Common.{◌≡◌, false}
+use Rattle.madt.specs.Entries.{faulty}
+use Rattle.madt.specs.Walk.{left}
+use Rattle.madt.proofs.EntryLaws.{Standing}
+use Rattle.platform.specs.Lists.{ListName}
+use Rattle.platform.proofs.FillLaws.{Filling, of_list}
+use Rattle.platform.proofs.fill.Given as goal
+
+abbrev pub invariant-loop-found : goal.invariant-loop-found
+invariant-loop-found l =
+    let first = l.initial in
+    let before = of_list first.processors first.io_apics first.interrupt_source_overrides first.nmi_sources first.local_apic_nmi_lines in
+    let now = of_list l.processors l.io_apics l.interrupt_source_overrides l.nmi_sources l.local_apic_nmi_lines in
+    let next = of_list l.next_processor l.next_io_apic l.next_override l.next_nmi_source l.next_nmi_line in
+    record {
+      standing : Standing l.table (left l.found-iterator);
+      faultless : faulty (left l.found-iterator) ≡ false;
+      filling : (name : ListName) → Filling name l.table (before name) (now name) (next name) (left l.found-iterator);
+    }
