@@ -1,6 +1,7 @@
 -- Laws about the root pointer: what each finding of the reader makes of the answer, and on which bytes it depends.
-use Rattle.std.proofs.Common.{ℕ, ◌%◌, ◌≤◌, ◌<◌, ◌≡◌, refl, sym, ◌∙◌, List, [], ◌∷◌, Bool, true, false, not, ◌||◌, arith, length, take}
+use Rattle.std.proofs.Common.{ℕ, ◌%◌, ◌≤◌, ◌<◌, ◌≡◌, List, [], ◌∷◌, Bool, true, false, not, arith, length, take}
 use native.Mathlib.Decide.{ℕ_discrete}
+use Rattle.std.proofs.Math.Bool.{or-true}
 use Rattle.field.specs.First.{less, differ, when, ◌gives◌, checked}
 use Rattle.field.specs.Number.{number}
 use Rattle.field.specs.Part.{part}
@@ -9,7 +10,7 @@ use Rattle.field.proofs.ThenLaws.{then_ok, then_err}
 use Rattle.refusal.specs.declared.Refusal.{Refusal}
 use Rattle.refusal.specs.declared.Refusal.TheVariants.{PointerNotMapped, WrongPointerSignature, WrongPointerOemId, WrongPointerChecksum}
 use Rattle.field.specs.Text.{text}
-use Rattle.field.proofs.FirstLaws.{less_yes, less_no, less_false, differ_yes, differ_no, when_hit, when_pass, hit, pass, clear, all_clear}
+use Rattle.field.proofs.FirstLaws.{less_yes, less_no, differ_yes, differ_no, when_hit, when_pass, hit, pass, clear}
 use Rattle.rsdp.specs.Pointer.{rsd_ptr, revision_of, needed_of, summed_of, wrong_sum, pointer_reasons, pointer_checked, pointer_of, root_pointer_of}
 
 -- The structure of ACPI 1.0, and the later one.
@@ -43,13 +44,9 @@ pub sum_short : (v : List ℕ) → summed_of v < 20 → wrong_sum v ≡ true
 unfolding wrong_sum
 sum_short v h = rw (less_yes (summed_of v) 20 h)
 
-or_true : (a : Bool) → a || true ≡ true
-or_true true = refl
-or_true false = refl
-
 pub sum_long : (v : List ℕ) → 36 < summed_of v → wrong_sum v ≡ true
 unfolding wrong_sum
-sum_long v h = rw (less_yes 36 (summed_of v) h, or_true (less (summed_of v) 20))
+sum_long v h = rw (less_yes 36 (summed_of v) h, or-true (less (summed_of v) 20))
 
 pub sum_decides : (v : List ℕ) → 20 ≤ summed_of v → summed_of v ≤ 36 → wrong_sum v ≡ differ (sum (take (summed_of v) v) % 256) 0
 unfolding wrong_sum
@@ -61,34 +58,44 @@ module _ (v : List ℕ) where
   unfolding pointer_checked pointer_reasons
   pointer_short h = hit _ PointerNotMapped _ (less_yes (length v) 20 h)
 
-  module _ (some : 20 ≤ length v) where
-    pub pointer_cut : length v < needed_of v → pointer_checked v ≡ Err PointerNotMapped
+  pub pointer_cut : 20 ≤ length v → length v < needed_of v → pointer_checked v ≡ Err PointerNotMapped
+  unfolding pointer_checked pointer_reasons
+  pointer_cut some h = pass _ PointerNotMapped _ (less_no (length v) 20 some) (hit _ PointerNotMapped _ (less_yes (length v) (needed_of v) h))
+
+  module _ (all : needed_of v ≤ length v) where
+    -- Past what is mapped the structure itself decides.
+    pointer_rest : {x : Result (Unit {0}) Refusal}
+        → checked
+        ((differ (number v 0 8) rsd_ptr gives WrongPointerSignature)
+        ∷ (not (text (part v 9 6)) gives WrongPointerOemId)
+        ∷ (wrong_sum v gives WrongPointerChecksum)
+        ∷ [])
+        ≡ x
+        → pointer_checked v ≡ x
     unfolding pointer_checked pointer_reasons
-    pointer_cut h = pass _ PointerNotMapped _ (less_no (length v) 20 some) (hit _ PointerNotMapped _ (less_yes (length v) (needed_of v) h))
+    pointer_rest e =
+        pass _ PointerNotMapped _ (less_no (length v) 20 (omega (arith, needed_least v)))
+        (pass _ PointerNotMapped _ (less_no (length v) (needed_of v) all) e)
 
-    module _ (all : needed_of v ≤ length v) where
-      -- Past what is mapped the structure itself decides.
-      pointer_rest : {x : Result (Unit {0}) Refusal} → checked ((differ (number v 0 8) rsd_ptr gives WrongPointerSignature) ∷ (not (text (part v 9 6)) gives WrongPointerOemId) ∷ (wrong_sum v gives WrongPointerChecksum) ∷ []) ≡ x
-          → pointer_checked v ≡ x
-      unfolding pointer_checked pointer_reasons
-      pointer_rest e = pass _ PointerNotMapped _ (less_no (length v) 20 some) (pass _ PointerNotMapped _ (less_no (length v) (needed_of v) all) e)
+    pub pointer_signature : (number v 0 8 ≡ rsd_ptr → ⊥) → pointer_checked v ≡ Err WrongPointerSignature
+    pointer_signature h = pointer_rest (hit _ WrongPointerSignature _ (differ_yes (number v 0 8) rsd_ptr h))
 
-      pub pointer_signature : (number v 0 8 ≡ rsd_ptr → ⊥) → pointer_checked v ≡ Err WrongPointerSignature
-      pointer_signature h = pointer_rest (hit _ WrongPointerSignature _ (differ_yes (number v 0 8) rsd_ptr h))
+    module _ (signature : number v 0 8 ≡ rsd_ptr) where
+      pub pointer_maker : not (text (part v 9 6)) ≡ true → pointer_checked v ≡ Err WrongPointerOemId
+      pointer_maker t = pointer_rest (pass _ WrongPointerSignature _ (differ_no (number v 0 8) rsd_ptr signature) (hit _ WrongPointerOemId _ t))
 
-      pub pointer_maker : number v 0 8 ≡ rsd_ptr → not (text (part v 9 6)) ≡ true → pointer_checked v ≡ Err WrongPointerOemId
-      pointer_maker e t = pointer_rest (pass _ WrongPointerSignature _ (differ_no (number v 0 8) rsd_ptr e) (hit _ WrongPointerOemId _ t))
+      module _ (maker : not (text (part v 9 6)) ≡ false) where
+        pub pointer_sum : wrong_sum v ≡ true → pointer_checked v ≡ Err WrongPointerChecksum
+        pointer_sum s =
+            pointer_rest
+            (pass _ WrongPointerSignature _ (differ_no (number v 0 8) rsd_ptr signature)
+            (pass _ WrongPointerOemId _ maker (hit _ WrongPointerChecksum _ s)))
 
-      pub pointer_sum : number v 0 8 ≡ rsd_ptr → not (text (part v 9 6)) ≡ false → wrong_sum v ≡ true → pointer_checked v ≡ Err WrongPointerChecksum
-      pointer_sum e t s = pointer_rest (pass _ WrongPointerSignature _ (differ_no (number v 0 8) rsd_ptr e) (pass _ WrongPointerOemId _ t (hit _ WrongPointerChecksum _ s)))
-
-      pub pointer_valid : number v 0 8 ≡ rsd_ptr → not (text (part v 9 6)) ≡ false → wrong_sum v ≡ false → pointer_checked v ≡ Ok tt
-      pointer_valid e t s = pointer_rest (pass _ WrongPointerSignature _ (differ_no (number v 0 8) rsd_ptr e) (pass _ WrongPointerOemId _ t (pass _ WrongPointerChecksum _ s clear)))
-
--- A valid root pointer is mapped whole.
-pub valid_mapped : (v : List ℕ) → pointer_checked v ≡ Ok tt → needed_of v ≤ length v
-unfolding pointer_checked pointer_reasons
-valid_mapped v e = less_false (length v) (needed_of v) (all_clear _ _ _ (all_clear _ _ _ e).others).fails
+        pub pointer_valid : wrong_sum v ≡ false → pointer_checked v ≡ Ok tt
+        pointer_valid s =
+            pointer_rest
+            (pass _ WrongPointerSignature _ (differ_no (number v 0 8) rsd_ptr signature)
+            (pass _ WrongPointerOemId _ maker (pass _ WrongPointerChecksum _ s clear)))
 
 -- The answer with its value, or the refusal.
 pub answer_valid : (v : List ℕ) → pointer_checked v ≡ Ok tt → root_pointer_of v ≡ Ok (pointer_of v)
@@ -98,26 +105,6 @@ answer_valid v e = then_ok _ e
 pub answer_refused : (v : List ℕ) (refusal : Refusal) → pointer_checked v ≡ Err refusal → root_pointer_of v ≡ Err refusal
 unfolding root_pointer_of
 answer_refused v refusal e = then_err _ e
-
--- The fields of the two structures, as they are read.
-pub pointer_first : (v : List ℕ) (revision rsdt : ℕ) → revision ≡ 0 → revision ≡ revision_of v → rsdt ≡ number v 16 4
-    → record { revision = revision; length = 20; rsdt_address = rsdt; xsdt_address = 0 } ≡ pointer_of v
-unfolding pointer_of
-pointer_first v revision rsdt z e f =
-    let first : revision_of v ≡ 0 = sym e ∙ z in
-    let len : 20 ≡ summed_of v = sym (summed_first v first) in
-    let xsdt : 0 ≡ when (differ (revision_of v) 0) (number v 24 8) 0 = sym (when_pass _ _ _ (differ_no (revision_of v) 0 first)) in
-    λ i. record { revision = e i; length = len i; rsdt_address = f i; xsdt_address = xsdt i }
-
-pub pointer_later : (v : List ℕ) (revision rsdt len xsdt : ℕ) → (revision ≡ 0 → ⊥) → revision ≡ revision_of v → rsdt ≡ number v 16 4
-    → len ≡ number v 20 4 → xsdt ≡ number v 24 8
-    → record { revision = revision; length = len; rsdt_address = rsdt; xsdt_address = xsdt } ≡ pointer_of v
-unfolding pointer_of
-pointer_later v revision rsdt len xsdt h e f g k =
-    let later : revision_of v ≡ 0 → ⊥ = λ z. h (e ∙ z) in
-    let l : len ≡ summed_of v = g ∙ sym (summed_later v later) in
-    let x : xsdt ≡ when (differ (revision_of v) 0) (number v 24 8) 0 = k ∙ sym (when_hit _ _ _ (differ_yes (revision_of v) 0 later)) in
-    λ i. record { revision = e i; length = l i; rsdt_address = f i; xsdt_address = x i }
 
 -- What is summed lies inside what is needed, where its length can be right.
 pub summed_within : (v : List ℕ) → summed_of v ≤ 36 → summed_of v ≤ needed_of v

@@ -1,8 +1,7 @@
 -- Laws about valid root pointers: what a valid one is, and which one a search finds.
-use Rattle.std.proofs.Common.{◌%◌, ◌≡◌, refl, sym, Bool, true, false, ◌||◌, arith, length, take}
-use mathlib.Core.Bool.{false≢true}
+use Rattle.std.proofs.Common.{◌%◌, arith, length, take}
 use borrow.Author.Tests.{not-false}
-use Rattle.field.specs.First.{less}
+use Rattle.std.proofs.lemmas.Bool.{or_parts}
 use Rattle.field.specs.Number.{number}
 use Rattle.std.specs.Prelude.{sum}
 use Rattle.refusal.specs.Number.{number_of}
@@ -18,15 +17,6 @@ pub pointer_reasons_ascend : PointerReasonsAscend
 unfolding pointer_reasons ascends
 pointer_reasons_ascend v = ascending number_of 2 (pointer_reasons v) tt
 
--- Where one of two tests has to hold and none does, each fails.
-or_left : (a b : Bool) → a || b ≡ false → a ≡ false
-or_left true b e = e
-or_left false b e = refl
-
-or_right : (a b : Bool) → a || b ≡ false → b ≡ false
-or_right true b e = absurd (false≢true (sym e))
-or_right false b e = e
-
 -- Where nothing refuses it, no test of the list holds, and none of the three that make the sum wrong.
 pub valid_pointer_sums : ValidPointerSums
 unfolding pointer_checked pointer_reasons wrong_sum
@@ -36,14 +26,15 @@ valid_pointer_sums v e =
     let c₃ = all_clear _ _ _ c₂.others in
     let c₄ = all_clear _ _ _ c₃.others in
     let c₅ = all_clear _ _ _ c₄.others in
-    let lengths = or_left (less (summed_of v) 20 || less 36 (summed_of v)) _ c₅.fails in
+    let sum_parts = or_parts _ _ c₅.fails in
+    let length_parts = or_parts _ _ sum_parts.0 in
     record {
       mapped = less_false (length v) (needed_of v) c₂.fails;
       signature = differ_false (number v 0 8) rsd_ptr c₃.fails;
       maker = not-false _ c₄.fails;
-      least = less_false (summed_of v) 20 (or_left _ (less 36 (summed_of v)) lengths);
-      most = less_false 36 (summed_of v) (or_right (less (summed_of v) 20) _ lengths);
-      sums = differ_false (sum (take (summed_of v) v) % 256) 0 (or_right (less (summed_of v) 20 || less 36 (summed_of v)) _ c₅.fails);
+      least = less_false (summed_of v) 20 length_parts.0;
+      most = less_false 36 (summed_of v) length_parts.1;
+      sums = differ_false (sum (take (summed_of v) v) % 256) 0 sum_parts.1;
     }
 
 -- The search chooses the first valid address of the list, or nothing.

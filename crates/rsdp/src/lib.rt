@@ -1,11 +1,11 @@
 // The root pointer: whether one stands at an address and what it says, and the search for it.
 #![tactic(auto)]
 
-ghost use Rattle.std.specs.Prelude.{◌≡◌, ◌+◌, ◌-◌, ◌*◌, ◌/◌, ◌^◌, ◌≤◌, min, length, drop};
+ghost use Rattle.std.specs.Prelude.{◌≡◌, ◌+◌, ◌-◌, ◌*◌, ◌/◌, ◌^◌, ◌≤◌, min, length, drop, MatchResult};
 ghost use Rattle.std.specs.Result.{is_ok};
 ghost use Rattle.field.specs.Choice.{nth_valid};
 ghost use Rattle.memory.specs.Places.{view_of};
-ghost use Rattle.rsdp.specs.Pointer.{needed_of, summed_of, wrong_sum, pointer_checked, pointer_of, root_pointer_of};
+ghost use Rattle.rsdp.specs.Pointer.{revision_of, needed_of, summed_of, wrong_sum, pointer_checked, pointer_of, root_pointer_of};
 ghost use Rattle.rsdp.specs.Search.{every_sixteen, segment_of, second_area, checked_at, checked_in};
 ghost use Rattle.rsdp.specs.Asked.{root_pointer_at, search_asked};
 
@@ -38,6 +38,13 @@ pub struct Rsdp {
     pub xsdt_address: u64,
 }
 
+// The bytes of a root pointer, with all that its revision needs mapped.
+#[derive(Clone, Copy)]
+struct Structure<'a> {
+    view: &'a [u8],
+    ghost mapped: { needed_of view.now ≤ length view.now },
+}
+
 // Addresses 16 bytes apart, all below 4 GiB, at which a root pointer may stand.
 #[derive(Clone, Copy)]
 struct Area {
@@ -46,7 +53,8 @@ struct Area {
     ghost below_4_gib: { start + 16 * places ≤ 2 ^ 32 },
 }
 
-// How many bytes the structure has.
+// How many bytes the structure at the start of the view has.
+#[tactic(auto, unfolding(crate::specs::Pointer::needed_of, field::specs::First::when, field::specs::First::differ))]
 fn needed(view: &[u8]) -> usize
     requires { 20 ≤ length view.now }
     ensures { result ≡ needed_of view.now }
@@ -54,78 +62,96 @@ fn needed(view: &[u8]) -> usize
     if field::u8_at(view, 15) == 0 { 20 } else { 36 }
 }
 
-// How many bytes are summed.
-fn summed(view: &[u8]) -> u32
-    requires { needed_of view.now ≤ length view.now }
-    ensures { result ≡ summed_of view.now }
-{
-    if field::u8_at(view, 15) == 0 {
-        20
-    } else {
-        field::u32_at(view, 20)
+#[tactic(auto, using(crate::proofs::PointerLaws::needed_least, crate::proofs::PointerLaws::needed_later), unfolding(crate::specs::Pointer::needed_of, crate::specs::Pointer::summed_of, crate::specs::Pointer::pointer_of, field::specs::First::when, field::specs::First::differ))]
+impl<'a> Structure<'a> {
+    // The structure at the start of the view, if it is mapped whole.
+    fn mapped(view: &'a [u8]) -> Result<Structure<'a>, Refusal>
+        ensures { MatchResult result
+            (λ structure. structure.view.now ≡ view.now)
+            (λ refusal. pointer_checked view.now ≡ Err refusal) }
+    {
+        if view.len() < 20 || view.len() < needed(view) {
+            return Err(Refusal::PointerNotMapped);
+        }
+        Ok(Structure { view })
     }
-}
 
-// The length can't be right, or the bytes don't sum to 0 over it.
-fn has_wrong_sum(view: &[u8]) -> bool
-    requires { needed_of view.now ≤ length view.now }
-    ensures { result ≡ wrong_sum view.now }
-{
-    let len = summed(view) as usize;
-    len < 20 || 36 < len || field::sum(&view[..len]) != 0
+    fn revision(self) -> u8
+        ensures { result ≡ revision_of self.entry.view.now }
+    {
+        field::u8_at(self.view, 15)
+    }
+
+    // How many bytes are summed.
+    fn summed(self) -> u32
+        ensures { result ≡ summed_of self.entry.view.now }
+    {
+        if self.revision() == 0 {
+            20
+        } else {
+            field::u32_at(self.view, 20)
+        }
+    }
+
+    // The length can't be right, or the bytes don't sum to 0 over it.
+    fn has_wrong_sum(self) -> bool
+        ensures { result ≡ wrong_sum self.entry.view.now }
+    {
+        let len = self.summed() as usize;
+        if len < 20 || 36 < len {
+            return true;
+        }
+        field::sum(&self.view[..len]) != 0
+    }
+
+    // Whether the root pointer is valid, or why not.
+    fn check(self) -> Result<(), Refusal>
+        ensures { result ≡ pointer_checked self.entry.view.now }
+    {
+        if field::u64_at(self.view, 0) != RSD_PTR {
+            return Err(Refusal::WrongPointerSignature);
+        }
+        if !field::is_text(&self.view[9..15]) {
+            return Err(Refusal::WrongPointerOemId);
+        }
+        if self.has_wrong_sum() {
+            return Err(Refusal::WrongPointerChecksum);
+        }
+        Ok(())
+    }
+
+    // What it says, if it is valid.
+    fn says(self) -> Rsdp
+        ensures { result ≡ pointer_of self.entry.view.now }
+    {
+        let revision = self.revision();
+        Rsdp {
+            revision,
+            length: self.summed(),
+            rsdt_address: field::u32_at(self.view, 16),
+            xsdt_address: if revision == 0 {
+                0
+            } else {
+                field::u64_at(self.view, 24)
+            },
+        }
+    }
 }
 
 // Whether a valid root pointer stands at the start of the view, or why not.
 pub fn check(view: &[u8]) -> Result<(), Refusal>
     ensures { result ≡ pointer_checked view.now }
 {
-    if view.len() < 20 {
-        return Err(Refusal::PointerNotMapped);
-    }
-    if view.len() < needed(view) {
-        return Err(Refusal::PointerNotMapped);
-    }
-    if field::u64_at(view, 0) != RSD_PTR {
-        return Err(Refusal::WrongPointerSignature);
-    }
-    if !field::is_text(&view[9..15]) {
-        return Err(Refusal::WrongPointerOemId);
-    }
-    if has_wrong_sum(view) {
-        return Err(Refusal::WrongPointerChecksum);
-    }
-    Ok(())
-}
-
-// What a valid root pointer says.
-fn pointer(view: &[u8]) -> Rsdp
-    requires { needed_of view.now ≤ length view.now }
-    ensures { result ≡ pointer_of view.now }
-{
-    let revision = field::u8_at(view, 15);
-    let rsdt_address = field::u32_at(view, 16);
-    if revision == 0 {
-        return Rsdp {
-            revision,
-            length: 20,
-            rsdt_address,
-            xsdt_address: 0,
-        };
-    }
-    Rsdp {
-        revision,
-        length: field::u32_at(view, 20),
-        rsdt_address,
-        xsdt_address: field::u64_at(view, 24),
-    }
+    Structure::mapped(view)?.check()
 }
 
 // The root pointer at the start of the view.
 pub fn root_pointer(view: &[u8]) -> Result<Rsdp, Refusal>
     ensures { result ≡ root_pointer_of view.now }
 {
-    check(view)?;
-    Ok(pointer(view))
+    let structure = Structure::mapped(view)?;
+    structure.check()?;
+    Ok(structure.says())
 }
 
 // The root pointer at a physical address.
@@ -143,11 +169,27 @@ fn is_valid(view: &[u8], at: usize) -> bool
     field::u64_at(view, at) == RSD_PTR && check(&view[at..]).is_ok()
 }
 
-// How many places, 16 bytes apart and so many at most, have 20 bytes or more in a view of so many bytes.
-fn places_in(bytes: usize, most: u64) -> u64
-    ensures { result ≡ min most ((bytes - 4) / 16) }
-{
-    most.min((bytes as u64).saturating_sub(4) / 16)
+impl Area {
+    // Its first places, as many as have 20 bytes or more in a view of so many bytes.
+    fn within(self, bytes: usize) -> Area
+        ensures { (result.start ≡ self.start) × (result.places ≡ min self.places ((bytes - 4) / 16)) }
+    {
+        Area {
+            start: self.start,
+            places: self.places.min((bytes as u64).saturating_sub(4) / 16),
+        }
+    }
+
+    // The places behind its first ones.
+    fn behind(self, passed: u64) -> Area
+        requires { passed ≤ self.places }
+        ensures { (result.start ≡ self.start + 16 * passed) × (result.places ≡ self.places - passed) }
+    {
+        Area {
+            start: self.start + 16 * passed,
+            places: self.places - passed,
+        }
+    }
 }
 
 // The first valid root pointer of an area, in a view that begins where the area does.
@@ -165,22 +207,20 @@ fn search_view(view: &[u8], area: Area) -> Option<u64>
 }
 
 // The first valid root pointer of an area. A range is looked up once for all of its places at which 20 bytes can be read;
-// where fewer can, no root pointer stands.
+// where fewer can, no root pointer stands. How many places the loop goes on by is known only once a view was looked up, so it
+// is neither a `for` nor a chain.
 fn search_area(memory: Memory, area: Area) -> Option<u64>
     ensures { result ≡ nth_valid (checked_at memory.entry.image.now memory.entry.ranges.now) 0 (every_sixteen area.places area.start) }
 {
-    let mut start = area.start;
-    let mut left = area.places;
-    while 0 < left {
-        let view = memory.view(start);
-        let places = places_in(view.len(), left);
-        let found = search_view(view, Area { start, places });
+    let mut left = area;
+    while 0 < left.places {
+        let view = memory.view(left.start);
+        let here = left.within(view.len());
+        let found = search_view(view, here);
         if found.is_some() {
             return found;
         }
-        let passed = places.max(1);
-        start += 16 * passed;
-        left -= passed;
+        left = left.behind(here.places.max(1));
     }
     None
 }
