@@ -21,7 +21,7 @@ use refusal::Refusal;
 // The model, by the names of the Rust crate: how many records each of its lists has, the address of the local
 // interrupt controllers, and whether the machine also has the old pair of controllers. It is known if an entry of
 // this model is there; where it is not known, all lists are empty.
-#[derive(Clone, Copy)]
+#[derive(Clone, Copy, Default)]
 pub struct Model {
     pub known: bool,
     pub local_apic_address: u64,
