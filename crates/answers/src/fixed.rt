@@ -16,6 +16,7 @@ impl Values for PowerProfile {
     }
 }
 
+// By `as`, which is proved to lose nothing: nineteen calls of `u64::from` are more than one proof follows.
 impl Values for Fixed {
     ghost values = { fixed_values };
 
