@@ -74,9 +74,11 @@ pub record Filling (l : ListName) (s before now : List ℕ) (to : ℕ) (items : 
   pub same : length now ≡ length before
   pub fits : length (list l s) ≤ length before
 
-pub fill_start : (l : ListName) (s before : List ℕ) {items : List Item} → items ≡ entries s → length (list l s) ≤ length before → Filling l s before before 0 items
+pub fill_start :
+    (l : ListName) {s before now : List ℕ} {to : ℕ} {items : List Item} → items ≡ entries s → to ≡ 0 → now ≡ before →
+    length (list l s) ≤ length before → Filling l s now now to items
 unfolding list
-fill_start l s before q h = rw q (record { whole = refl; behind = refl; within = omega arith; same = refl; fits = h })
+fill_start l q start same h = rw (q, start, same) (record { whole = refl; behind = refl; within = omega arith; same = refl; fits = h })
 
 pub fill_end : {l : ListName} {s before now : List ℕ} {to : ℕ} {items : List Item} → Filling l s before now to items → items ≡ [] → now ≡ over (list l s) before
 unfolding those words_of over

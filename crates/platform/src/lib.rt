@@ -218,16 +218,35 @@ fn record_of(table: &[u8], enabled: u32, e: MadtEntry) -> Option<Record>
     }
 }
 
-// Writes a record's words and answers the place behind them.
-fn put(out: &mut [u32], to: usize, words: &[u32]) -> usize
-    requires { to + length words.now ≤ length out.old }
-    ensures next { result ≡ to + length words.now }
-    ensures written { take result out.new ≡ take to out.old ++ words.now }
-    ensures kept { drop result out.new ≡ drop result out.old }
-{
-    let end = to + words.len();
-    out[to..end].copy_from_slice(words);
-    end
+// A lent table, and how many of its words are written. It stays the caller's: the reference keeps its ghost name.
+#[derive(Drop)]
+struct Lent<'a> {
+    words: &'a mut [u32],
+    written: usize,
+}
+
+impl<'a> Lent<'a> {
+    fn new(words: &'a mut [u32]) -> Lent<'a>
+        ensures loan { result.words.ghost_name ≡ words.entry.ghost_name }
+        ensures words { result.words.now ≡ words.old }
+        ensures none { result.written ≡ 0 }
+    {
+        Lent { words, written: 0 }
+    }
+
+    // Writes a record behind those that are there.
+    fn push(&mut self, record: &[u32])
+        requires { self.old.written + length record.now ≤ length self.old.words.now }
+        ensures loan { self.new.words.ghost_name ≡ self.old.words.ghost_name }
+        ensures next { self.new.written ≡ self.old.written + length record.now }
+        ensures front { take self.new.written self.new.words.now ≡ take self.old.written self.old.words.now ++ record.now }
+        ensures behind { drop self.new.written self.new.words.now ≡ drop self.new.written self.old.words.now }
+        ensures long { length self.new.words.now ≡ length self.old.words.now }
+    {
+        let end = self.written + record.len();
+        self.words[self.written..end].copy_from_slice(record);
+        self.written = end;
+    }
 }
 
 // The state of the next processor that is enabled: the first one runs, all others wait to be started.
@@ -240,7 +259,8 @@ fn enabled_at(to: usize) -> u32
 // Fills five lent tables with the records of the model's lists: processors (number, controller id, state: 0 disabled,
 // 1 waiting, 2 running), I/O controllers (id, address, interrupt base), overrides (source, interrupt, polarity and
 // trigger), NMI sources (interrupt, polarity and trigger) and NMI lines (processor or 0xffffffff for all, line). What
-// stands behind the records is left as it was, and a refusal leaves all five tables as they were.
+// stands behind the records is left as it was, and a refusal leaves all five tables as they were. The tables are
+// parameters of their own, as the interface for C has them.
 pub fn fill(
     table: &[u8],
     processors: &mut [u32],
@@ -264,28 +284,18 @@ pub fn fill(
         return Err(Refusal::BufferTooShort);
     }
     // Nothing was written so far. From here on the table has no fault, and each list has room.
-    let mut next_processor = 0;
-    let mut next_io_apic = 0;
-    let mut next_override = 0;
-    let mut next_nmi_source = 0;
-    let mut next_nmi_line = 0;
+    let mut processors = Lent::new(processors);
+    let mut io_apics = Lent::new(io_apics);
+    let mut interrupt_source_overrides = Lent::new(interrupt_source_overrides);
+    let mut nmi_sources = Lent::new(nmi_sources);
+    let mut local_apic_nmi_lines = Lent::new(local_apic_nmi_lines);
     for found in madt::entries(table) {
-        match record_of(table, enabled_at(next_processor), found.unwrap()) {
-            Some(Record::Processor(words)) => {
-                next_processor = put(processors, next_processor, &words);
-            }
-            Some(Record::IoApic(words)) => {
-                next_io_apic = put(io_apics, next_io_apic, &words);
-            }
-            Some(Record::Override(words)) => {
-                next_override = put(interrupt_source_overrides, next_override, &words);
-            }
-            Some(Record::NmiSource(words)) => {
-                next_nmi_source = put(nmi_sources, next_nmi_source, &words);
-            }
-            Some(Record::NmiLine(words)) => {
-                next_nmi_line = put(local_apic_nmi_lines, next_nmi_line, &words);
-            }
+        match record_of(table, enabled_at(processors.written), found.unwrap()) {
+            Some(Record::Processor(record)) => processors.push(&record),
+            Some(Record::IoApic(record)) => io_apics.push(&record),
+            Some(Record::Override(record)) => interrupt_source_overrides.push(&record),
+            Some(Record::NmiSource(record)) => nmi_sources.push(&record),
+            Some(Record::NmiLine(record)) => local_apic_nmi_lines.push(&record),
             None => {}
         }
     }

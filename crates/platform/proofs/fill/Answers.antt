@@ -1,5 +1,5 @@
 -- `fill` meets its contract: what refuses does so before anything is written, and where nothing does there is room.
-use Rattle.std.proofs.Common.{◌≡◌, ◌∙◌, refl, ap, sym, subst, arith, length}
+use Rattle.std.proofs.Common.{◌≡◌, ◌∙◌, refl, ap, sym, subst, arith, length, rules}
 use Rattle.std.proofs.lemmas.Result.{err_from_is_err_and}
 use Rattle.std.specs.Prelude.{Option, Some}
 use Rattle.madt.specs.Entries.{faulty}
@@ -40,7 +40,7 @@ returns-then-processors-m c =
 
 turned :
     (c : After-record_of) {r : Option Record} → c.record_of.result ≡ r →
-    Turn c.args.table.now (left c.loop-found.found-iterator) (left c.next.new.self) c.loop-found.next_processor c.unwrap.result r
+    Turn c.args.table.now (left c.loop-found.found-iterator) (left c.next.new.self) c.loop-found.processors.written c.unwrap.result r
 turned c same = turn c.in-Some.ensures.steps c.unwrap.ensures c.enabled_at.ensures c.record_of.ensures same
 
 pub loop-found-init : goal.loop-found-init
@@ -54,103 +54,115 @@ loop-found-init c =
     record {
       standing = subst (Standing _) (sym q) (entries_stand _);
       faultless = ap faulty q ∙ sound _ a.none;
-      filling = elim [ processors ↦ fill_start processors _ _ q (rooms processors) | name ↦ fill_start name _ _ q (rooms name) ];
+      loans = elim [ processors ↦ refl | name ↦ refl ];
+      filling = elim [
+        | processors ↦ fill_start processors q c.new-processors.ensures.none c.new-processors.ensures.words (rooms processors)
+        | io_apics ↦ fill_start io_apics q c.new-io_apics.ensures.none c.new-io_apics.ensures.words (rooms io_apics)
+        | interrupt_source_overrides ↦ fill_start interrupt_source_overrides q c.new-interrupt_source_overrides.ensures.none c.new-interrupt_source_overrides.ensures.words (rooms interrupt_source_overrides)
+        | nmi_sources ↦ fill_start nmi_sources q c.new-nmi_sources.ensures.none c.new-nmi_sources.ensures.words (rooms nmi_sources)
+        | local_apic_nmi_lines ↦ fill_start local_apic_nmi_lines q c.new-local_apic_nmi_lines.ensures.none c.new-local_apic_nmi_lines.ensures.words (rooms local_apic_nmi_lines)
+      ];
     }
 
 pub unwrap-requires : goal.unwrap-requires
 unwrap-requires c = sound_entry c.loop-found.invariant.faultless c.in-Some.ensures.steps
 
-pub put-next_processor-requires : goal.put-next_processor-requires
-put-next_processor-requires c =
-    let t = turned (goal.at.put-next_processor-requires c).After-record_of (c.in-Some-Processor.is ∙ ap Some c.in-Some-Processor.field-0-is) in
+pub push-requires : goal.push-requires
+push-requires c =
+    let t = turned (goal.at.push-requires c).After-record_of (c.in-Some-Processor.is ∙ ap Some c.in-Some-Processor.field-0-is) in
     fill_room t processors refl (λ _. refl) (c.loop-found.invariant.filling processors)
 
 pub loop-found-preserved-in-Some-Processor : goal.loop-found-preserved-in-Some-Processor
 loop-found-preserved-in-Some-Processor c =
     let t = turned (goal.at.loop-found-preserved-in-Some-Processor c).After-record_of (c.in-Some-Processor.is ∙ ap Some c.in-Some-Processor.field-0-is) in
     let was = c.loop-found.invariant in
-    let put = c.put-next_processor.ensures in
+    let put = c.push.ensures in
     record {
       standing = standing_rest was.standing c.in-Some.ensures.steps;
       faultless = sound_rest was.faultless c.in-Some.ensures.steps;
+      loans = elim [ processors ↦ put.loan ∙ was.loans processors | name ↦ was.loans name ];
       filling = elim [
-        | processors ↦ fill_mine t processors refl (λ _. refl) (was.filling processors) put.next put.written put.kept c.put-next_processor.auto.out
+        | processors ↦ fill_mine t processors refl (λ _. refl) (was.filling processors) put.next put.front put.behind put.long
         | name ↦ fill_other t name refl (was.filling name)
       ];
     }
 
-pub put-next_io_apic-requires : goal.put-next_io_apic-requires
-put-next_io_apic-requires c =
-    let t = turned (goal.at.put-next_io_apic-requires c).After-record_of (c.in-Some-IoApic.is ∙ ap Some c.in-Some-IoApic.field-0-is) in
+pub push-requires-in-Some-IoApic : goal.push-requires-in-Some-IoApic
+push-requires-in-Some-IoApic c =
+    let t = turned (goal.at.push-requires-in-Some-IoApic c).After-record_of (c.in-Some-IoApic.is ∙ ap Some c.in-Some-IoApic.field-0-is) in
     fill_room t io_apics refl (λ z. cc) (c.loop-found.invariant.filling io_apics)
 
 pub loop-found-preserved-in-Some-IoApic : goal.loop-found-preserved-in-Some-IoApic
 loop-found-preserved-in-Some-IoApic c =
     let t = turned (goal.at.loop-found-preserved-in-Some-IoApic c).After-record_of (c.in-Some-IoApic.is ∙ ap Some c.in-Some-IoApic.field-0-is) in
     let was = c.loop-found.invariant in
-    let put = c.put-next_io_apic.ensures in
+    let put = c.push-in-Some-IoApic.ensures in
     record {
       standing = standing_rest was.standing c.in-Some.ensures.steps;
       faultless = sound_rest was.faultless c.in-Some.ensures.steps;
+      loans = elim [ io_apics ↦ put.loan ∙ was.loans io_apics | name ↦ was.loans name ];
       filling = elim [
-        | io_apics ↦ fill_mine t io_apics refl (λ z. cc) (was.filling io_apics) put.next put.written put.kept c.put-next_io_apic.auto.out
+        | io_apics ↦ fill_mine t io_apics refl (λ z. cc) (was.filling io_apics) put.next put.front put.behind put.long
         | name ↦ fill_other t name refl (was.filling name)
       ];
     }
 
-pub put-next_override-requires : goal.put-next_override-requires
-put-next_override-requires c =
-    let t = turned (goal.at.put-next_override-requires c).After-record_of (c.in-Some-Override.is ∙ ap Some c.in-Some-Override.field-0-is) in
+pub push-requires-in-Some-Override : goal.push-requires-in-Some-Override
+push-requires-in-Some-Override c =
+    let t = turned (goal.at.push-requires-in-Some-Override c).After-record_of (c.in-Some-Override.is ∙ ap Some c.in-Some-Override.field-0-is) in
     fill_room t interrupt_source_overrides refl (λ z. cc) (c.loop-found.invariant.filling interrupt_source_overrides)
 
 pub loop-found-preserved-in-Some-Override : goal.loop-found-preserved-in-Some-Override
 loop-found-preserved-in-Some-Override c =
     let t = turned (goal.at.loop-found-preserved-in-Some-Override c).After-record_of (c.in-Some-Override.is ∙ ap Some c.in-Some-Override.field-0-is) in
     let was = c.loop-found.invariant in
-    let put = c.put-next_override.ensures in
+    let put = c.push-in-Some-Override.ensures in
     record {
       standing = standing_rest was.standing c.in-Some.ensures.steps;
       faultless = sound_rest was.faultless c.in-Some.ensures.steps;
+      loans = elim [ interrupt_source_overrides ↦ put.loan ∙ was.loans interrupt_source_overrides | name ↦ was.loans name ];
       filling = elim [
-        | interrupt_source_overrides ↦ fill_mine t interrupt_source_overrides refl (λ z. cc) (was.filling interrupt_source_overrides) put.next put.written put.kept c.put-next_override.auto.out
+        | interrupt_source_overrides ↦ fill_mine t interrupt_source_overrides refl (λ z. cc) (was.filling interrupt_source_overrides) put.next put.front put.behind put.long
         | name ↦ fill_other t name refl (was.filling name)
       ];
     }
 
-pub put-next_nmi_source-requires : goal.put-next_nmi_source-requires
-put-next_nmi_source-requires c =
-    let t = turned (goal.at.put-next_nmi_source-requires c).After-record_of (c.in-Some-NmiSource.is ∙ ap Some c.in-Some-NmiSource.field-0-is) in
+pub push-requires-in-Some-NmiSource : goal.push-requires-in-Some-NmiSource
+push-requires-in-Some-NmiSource c =
+    let t = turned (goal.at.push-requires-in-Some-NmiSource c).After-record_of (c.in-Some-NmiSource.is ∙ ap Some c.in-Some-NmiSource.field-0-is) in
     fill_room t nmi_sources refl (λ z. cc) (c.loop-found.invariant.filling nmi_sources)
 
 pub loop-found-preserved-in-Some-NmiSource : goal.loop-found-preserved-in-Some-NmiSource
 loop-found-preserved-in-Some-NmiSource c =
     let t = turned (goal.at.loop-found-preserved-in-Some-NmiSource c).After-record_of (c.in-Some-NmiSource.is ∙ ap Some c.in-Some-NmiSource.field-0-is) in
     let was = c.loop-found.invariant in
-    let put = c.put-next_nmi_source.ensures in
+    let put = c.push-in-Some-NmiSource.ensures in
     record {
       standing = standing_rest was.standing c.in-Some.ensures.steps;
       faultless = sound_rest was.faultless c.in-Some.ensures.steps;
+      loans = elim [ nmi_sources ↦ put.loan ∙ was.loans nmi_sources | name ↦ was.loans name ];
       filling = elim [
-        | nmi_sources ↦ fill_mine t nmi_sources refl (λ z. cc) (was.filling nmi_sources) put.next put.written put.kept c.put-next_nmi_source.auto.out
+        | nmi_sources ↦ fill_mine t nmi_sources refl (λ z. cc) (was.filling nmi_sources) put.next put.front put.behind put.long
         | name ↦ fill_other t name refl (was.filling name)
       ];
     }
 
-pub put-next_nmi_line-requires : goal.put-next_nmi_line-requires
-put-next_nmi_line-requires c =
-    let t = turned (goal.at.put-next_nmi_line-requires c).After-record_of (c.in-Some-NmiLine.is ∙ ap Some c.in-Some-NmiLine.field-0-is) in
+pub push-requires-in-Some-NmiLine : goal.push-requires-in-Some-NmiLine
+push-requires-in-Some-NmiLine c =
+    let t = turned (goal.at.push-requires-in-Some-NmiLine c).After-record_of (c.in-Some-NmiLine.is ∙ ap Some c.in-Some-NmiLine.field-0-is) in
     fill_room t local_apic_nmi_lines refl (λ z. cc) (c.loop-found.invariant.filling local_apic_nmi_lines)
 
 pub loop-found-preserved-in-Some-NmiLine : goal.loop-found-preserved-in-Some-NmiLine
 loop-found-preserved-in-Some-NmiLine c =
     let t = turned (goal.at.loop-found-preserved-in-Some-NmiLine c).After-record_of (c.in-Some-NmiLine.is ∙ ap Some c.in-Some-NmiLine.field-0-is) in
     let was = c.loop-found.invariant in
-    let put = c.put-next_nmi_line.ensures in
+    let put = c.push-in-Some-NmiLine.ensures in
     record {
       standing = standing_rest was.standing c.in-Some.ensures.steps;
       faultless = sound_rest was.faultless c.in-Some.ensures.steps;
+      loans = elim [ local_apic_nmi_lines ↦ put.loan ∙ was.loans local_apic_nmi_lines | name ↦ was.loans name ];
       filling = elim [
-        | local_apic_nmi_lines ↦ fill_mine t local_apic_nmi_lines refl (λ z. cc) (was.filling local_apic_nmi_lines) put.next put.written put.kept c.put-next_nmi_line.auto.out
+        | local_apic_nmi_lines ↦ fill_mine t local_apic_nmi_lines refl (λ z. cc) (was.filling local_apic_nmi_lines) put.next put.front put.behind put.long
         | name ↦ fill_other t name refl (was.filling name)
       ];
     }
@@ -162,6 +174,7 @@ loop-found-preserved c =
     record {
       standing = standing_rest was.standing c.in-Some.ensures.steps;
       faultless = sound_rest was.faultless c.in-Some.ensures.steps;
+      loans = was.loans;
       filling = λ name. fill_other t name refl (was.filling name);
     }
 
@@ -172,13 +185,14 @@ returns c =
     has_room _ _ _ _ _ a c.if-processors-m.false c.if-io_apics-m.false c.if-interrupt_source_overrides-m.false c.if-nmi_sources-m.false
     c.if-local_apic_nmi_lines-m.false
     in
+    let loans = c.loop-found.invariant.loans in
     let filling = c.loop-found.invariant.filling in
     let none = c.in-None.ensures.steps.0 in
     record {
       answer = fill_fits _ _ _ _ _ _ a.none rooms;
-      processors = fill_end (filling processors) none;
-      io_apics = fill_end (filling io_apics) none;
-      interrupt_source_overrides = fill_end (filling interrupt_source_overrides) none;
-      nmi_sources = fill_end (filling nmi_sources) none;
-      local_apic_nmi_lines = fill_end (filling local_apic_nmi_lines) none;
+      processors = let loan = loans processors in let all = fill_end (filling processors) none in search rules;
+      io_apics = let loan = loans io_apics in let all = fill_end (filling io_apics) none in search rules;
+      interrupt_source_overrides = let loan = loans interrupt_source_overrides in let all = fill_end (filling interrupt_source_overrides) none in search rules;
+      nmi_sources = let loan = loans nmi_sources in let all = fill_end (filling nmi_sources) none in search rules;
+      local_apic_nmi_lines = let loan = loans local_apic_nmi_lines in let all = fill_end (filling local_apic_nmi_lines) none in search rules;
     }

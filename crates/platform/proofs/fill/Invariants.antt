@@ -13,9 +13,9 @@ invariant-loop-found l =
     let first = l.initial in
     let before = of_list first.processors first.io_apics first.interrupt_source_overrides first.nmi_sources first.local_apic_nmi_lines in
     let now = of_list l.processors l.io_apics l.interrupt_source_overrides l.nmi_sources l.local_apic_nmi_lines in
-    let next = of_list l.next_processor l.next_io_apic l.next_override l.next_nmi_source l.next_nmi_line in
     record {
       standing : Standing l.table (left l.found-iterator);
       faultless : faulty (left l.found-iterator) ≡ false;
-      filling : (name : ListName) → Filling name l.table (before name) (now name) (next name) (left l.found-iterator);
+      loans : (name : ListName) → (now name).words.ghost_name ≡ (before name).words.ghost_name;
+      filling : (name : ListName) → Filling name l.table (before name).words.now (now name).words.now (now name).written (left l.found-iterator);
     }
