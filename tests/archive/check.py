@@ -153,7 +153,8 @@ def disassembly(archive):
             continue
         instruction = re.match(r"^\s+([0-9a-f]+):\s+(\S.*)$", line)
         if instruction and current:
-            words = instruction.group(2).split("#")[0].split()
+            # A comment of objdump stands behind a blank; a "#" inside of a word belongs to the name of a closure.
+            words = re.split(r"\s#\s", instruction.group(2))[0].split()
             while words and words[0] in ("rep", "repz", "repnz", "lock", "data16", "cs", "bnd", "notrack"):
                 words.pop(0)
             if words:
