@@ -25,7 +25,7 @@ some_same : (p q : ℕ) → ◌≡◌ {A = Option ℕ} (Some p) (Some q) → p �
 some_same p q e = ap (λ (o : Option ℕ). elim o [ None ↦ 0 | Some k ↦ k ]) e
 
 module _ {R : Type 0} (check : ℕ → Result (Unit {0}) R) where
-  -- A refused element is passed over; a valid one is the one, or the next is counted from one less.
+  -- A refused element is passed over; a valid one is the one.
   pub choice_refused : (n p : ℕ) (ps : List ℕ) → is_ok (check p) ≡ false → nth_valid check n (p ∷ ps) ≡ nth_valid check n ps
   unfolding nth_valid
   choice_refused n p ps e = when_pass _ _ _ e
@@ -33,10 +33,6 @@ module _ {R : Type 0} (check : ℕ → Result (Unit {0}) R) where
   pub choice_here : (p : ℕ) (ps : List ℕ) → check p ≡ Ok tt → nth_valid check 0 (p ∷ ps) ≡ Some p
   unfolding nth_valid
   choice_here p ps e = when_hit _ _ _ (ok_yes (check p) e)
-
-  pub choice_counted : (n p : ℕ) (ps : List ℕ) → check p ≡ Ok tt → nth_valid check (suc n) (p ∷ ps) ≡ nth_valid check n ps
-  unfolding nth_valid
-  choice_counted n p ps e = when_hit _ _ _ (ok_yes (check p) e)
 
   pub choice_none : (n : ℕ) → nth_valid check n [] ≡ None
   unfolding nth_valid

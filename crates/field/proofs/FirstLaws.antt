@@ -1,6 +1,6 @@
 -- Laws about tests and the first refusal that applies.
 use Rattle.std.proofs.Common.{◌≡◌, ℕ, ◌<◌, ◌≤◌, Bool, true, false, not, ◌&&◌, T, eqb, leb, List, [], ◌∷◌, ◌++◌, sym, refl, ap, ◌∙◌, subst, le_trans, le_refl, ltb-false, ltb-true, le-ltb, lt-ltb, eq-eqb, ne_eqb, eqb-true, leb-true}
-use borrow.Author.Tests.{eqb-false, not-true, not-false}
+use borrow.Author.Tests.{not-false}
 use Rattle.std.specs.Prelude.{Result, Ok, Err}
 use Rattle.field.specs.First.{less, differ, when, Reason, ◌gives◌, checked, Ascending, Applies, RefusedBy, FirstIsSmallest}
 use Rattle.field.specs.First.Ascending.{no_more, then}
@@ -31,10 +31,6 @@ pub differ_no : (a b : ℕ) → a ≡ b → differ a b ≡ false
 unfolding differ
 differ_no a b h = ap not (eq-eqb a b h)
 
-pub differ_true : (a b : ℕ) → differ a b ≡ true → a ≡ b → ⊥
-unfolding differ
-differ_true a b e = eqb-false a b (not-true (eqb a b) e)
-
 pub differ_false : (a b : ℕ) → differ a b ≡ false → a ≡ b
 unfolding differ
 differ_false a b e = eqb-true a b (not-false (eqb a b) e)
@@ -47,6 +43,12 @@ when_hit t x rest e = rw e
 pub when_pass : {A : Type 0} (t : Bool) (x rest : A) → t ≡ false → when t x rest ≡ rest
 unfolding when
 when_pass t x rest e = rw e
+
+-- What a choice gives it gives by its first case or by the rest.
+pub when_cases : {A C : Type 0} (t : Bool) (x rest : A) {y : A} → when t x rest ≡ y → (t ≡ true → x ≡ y → C) → (t ≡ false → rest ≡ y → C) → C
+unfolding when
+when_cases true x rest e first others = first refl e
+when_cases false x rest e first others = others refl e
 
 -- The same for the first refusal that applies: the first reason holds, or it does not and the rest decides.
 pub hit : {R : Type 0} (t : Bool) (r : R) (rest : List (Reason R)) → t ≡ true → checked ((t gives r) ∷ rest) ≡ Err r

@@ -36,7 +36,7 @@ abbrev pub NothingMeansFew : Type 1
 NothingMeansFew =
     (R : Type 0) (check : ℕ → Result (Unit {0}) R) (n : ℕ) (ps : List ℕ) → nth_valid check n ps ≡ None → count_valid check ps ≤ n
 
--- every element has the property
+-- Every element has the property. The statement below is over this form, whose cases a reader matches on.
 pub data All {A : Type 0} (P : A → Type 0) : List A → Type 0 where
   none : All P []
   with : {p : A} {ps : List A} → P p → All P ps → All P (p ∷ ps)

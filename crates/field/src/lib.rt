@@ -8,7 +8,9 @@ ghost use Rattle.field.specs.Number.{number};
 ghost use Rattle.field.specs.Text.{text};
 
 // The numbers of one, two, four and eight bytes at an offset, lowest byte first. Each width has a type of its own, whose
-// method from_le_bytes does the work, so a trait over the four would only say these lines again.
+// method from_le_bytes does the work, so a trait over the four would only say these lines again. The bytes are named one by
+// one, since a part of the slice would have to be unwrapped into an array. That they are inside is asked of each caller, in
+// one clause: a type for an offset with room behind it would be made anew for each width.
 pub fn u8_at(bytes: &[u8], at: usize) -> u8
     requires { at + 1 ≤ length bytes.now }
     ensures { result ≡ number bytes.now at 1 }

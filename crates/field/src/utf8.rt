@@ -3,7 +3,8 @@ ghost use Rattle.std.specs.Prelude.{◌≡◌, ℕ, ◌<◌, ◌≤◌, List, �
 ghost use Rattle.field.specs.Text.{table, following_in, well_formed};
 ghost use Rattle.field.specs.Walk.{spans_of, meaning, well_formed_after};
 
-// So many bytes are left to come, and the next is from low to high; those behind it are from 80 to bf.
+// So many bytes are left to come, and the next is from low to high; those behind it are from 80 to bf. Where none is left the
+// bounds say nothing: an Option around them would be tested at each byte too.
 #[derive(Clone, Copy)]
 pub struct Expected {
     pub left: u8,

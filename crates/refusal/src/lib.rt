@@ -5,7 +5,8 @@
 ghost use Rattle.std.specs.Prelude.{◌≡◌};
 ghost use Rattle.refusal.specs.Number.{number_of};
 
-// Where several refusals apply, the answer is the one with the smallest number, which comes first here.
+// Where a question of one crate has several reasons to refuse, the answer is the one with the smallest number (but see
+// docs/DECISIONS.md, 4 and 18). They stand here in that order.
 #[derive(Clone, Copy, Debug, PartialEq, Eq)]
 pub enum Refusal {
     WrongRanges = 1,

@@ -29,6 +29,11 @@ header_reasons wanted t =
     ∷ (not (text (table_id_of t)) gives WrongTableId)
     ∷ []
 
+-- A slice that is handed over as a table of at least so many bytes: it has a header, and is as long as it states.
+unfoldable pub whole_checked : ℕ → List ℕ → Result (Unit {0}) Refusal
+whole_checked least t =
+    checked ((less (length t) (max header_size least) gives TooShort) ∷ (differ (length_of t) (length t) gives TooShort) ∷ [])
+
 -- A table at an address. Without its header nothing can be said of it. A sum over bytes that are not mapped is not wrong.
 unfoldable pub table_reasons : Wanted → ℕ → List ℕ → List (Reason Refusal)
 table_reasons wanted least t =

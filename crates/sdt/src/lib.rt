@@ -2,11 +2,11 @@
 // A view is the slice from the table's start to the end of what is mapped there.
 #![tactic(auto)]
 
-ghost use Rattle.std.specs.Prelude.{◌≡◌, ◌≤◌, ◌<◌, ◌%◌, max, ◌⊎◌, [], ◌∷◌, length, sum, MatchOption};
+ghost use Rattle.std.specs.Prelude.{◌≡◌, ◌≤◌, ◌<◌, ◌%◌, max, ◌⊎◌, [], ◌∷◌, length, sum, MatchOption, OnOk};
 ghost use Rattle.refusal.specs.declared.Refusal.TheVariants.{WrongChecksum, TooShort};
 ghost use Rattle.field.specs.First.{less, differ, ◌gives◌, checked};
 ghost use Rattle.sdt.specs.Header.{header_size, length_of, whole_of};
-ghost use Rattle.sdt.specs.Valid.{wrong_signature, header_reasons, table_checked, root_checked};
+ghost use Rattle.sdt.specs.Valid.{wrong_signature, header_reasons, whole_checked, table_checked, root_checked};
 
 use refusal::Refusal;
 
@@ -121,4 +121,16 @@ pub fn stated_length(view: &[u8]) -> u32
     ensures { result ≡ length_of view.now }
 {
     field::u32_at(view, 4)
+}
+
+// Whether a slice is a table of at least so many bytes: it has a header, and is as long as it states.
+#[tactic(auto, unfolding(crate::specs::Valid::whole_checked, field::specs::First::checked, field::specs::First::less, field::specs::First::differ, field::specs::First::when))]
+pub fn check_whole(table: &[u8], least: usize) -> Result<(), Refusal>
+    ensures value { result ≡ whole_checked least table.now }
+    ensures whole { OnOk result ((max header_size least ≤ length table.now) × (length_of table.now ≡ length table.now)) }
+{
+    if table.len() < least.max(HEADER_SIZE) || stated_length(table) as usize != table.len() {
+        return Err(Refusal::TooShort);
+    }
+    Ok(())
 }
