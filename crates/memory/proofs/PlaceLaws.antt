@@ -3,6 +3,7 @@ use Rattle.std.proofs.Common.{ℕ, zero, suc, ◌+◌, ◌-◌, ◌≤◌, ◌<�
 use Rattle.std.specs.Prelude.{Option, Some, None}
 use Rattle.std.proofs.lemmas.Option.{same_Some, none-some, slice_get-get_or}
 use Rattle.std.proofs.lemmas.List.{get_or-take}
+use Rattle.std.proofs.lemmas.List.Folds.{list_all-append}
 use native.Mathlib.Decide.{dec_le}
 use lib.Seq.{drop-set-add, take-set-le}
 use Rattle.field.specs.First.{when}
@@ -15,7 +16,7 @@ use Rattle.std.specs.Fn.{Called, ComputesKey}
 use Rattle.std.proofs.lemmas.List.Sorted.{IsPartitionedBy-leb, IsPartitionPoint-from_clause}
 use denote.Param.Members.{Mut}
 use denote.Ref.{Bor}
-use Rattle.std.specs.Option.{MatchOption}
+use Rattle.std.specs.Option.{MatchOption, IfSome, is_some}
 use Rattle.std.proofs.lemmas.Bool.{and_parts}
 use Rattle.memory.specs.Ranges.{range_of, ranges_of, inside, ordered, right}
 use Rattle.memory.specs.Places.{holds, place_in, place_of, bytes_at, view_of}
@@ -52,11 +53,6 @@ place_found (r ∷ rs) p place e = go (holds r p) refl (place_found rs p place)
           there = f.there;
         }
 
--- Each range of a list whose ranges are all inside is.
-member_inside : (size : ℕ) (before after : List Range) (r : Range) → list_all (inside size) (before ++ r ∷ after) ≡ true → inside size r ≡ true
-member_inside size [] after r e = (and_parts _ _ e).0
-member_inside size (b ∷ before) after r e = member_inside size before after r (and_parts _ _ e).1
-
 -- What `place_in` says, as numbers.
 record Numbers (r : Range) (p : ℕ) (place : Place) : Type 0 where
   pub at : r.offset + (p - r.start) ≡ place.offset
@@ -74,7 +70,11 @@ pub inside_the_slice : InsideTheSlice
 inside_the_slice size words p place e q =
     let f = place_found (ranges_of words) p place q in
     let n = numbers f.range p place f.there in
-    let i = inside_slice size f.range (member_inside size f.before f.after f.range (ap (list_all (inside size)) (sym f.listed) ∙ right_inside size words e)) in
+    let within = ap (list_all (inside size)) (sym f.listed) ∙ right_inside size words e in
+    let late =
+    (and_parts (list_all (inside size) f.before) (list_all (inside size) (f.range ∷ f.after))
+    (sym (list_all-append (inside size) f.before (f.range ∷ f.after)) ∙ within)).1 in
+    let i = inside_slice size f.range (and_parts (inside size f.range) (list_all (inside size) f.after) late).0 in
     omega (arith, holds_len f.range p f.held)
 
 pub inside_one_range : InsideOneRange
@@ -148,6 +148,12 @@ last_decides (n ∷ m ∷ l) (suc i) p e b below above =
     ∙ last_decides (m ∷ l) i p (and_parts _ _ e).1 (omega arith)
     (λ k d low high. below (suc k) d (omega arith) (omega arith))
     (λ k d low high. above (suc k) d (omega arith) (omega arith))
+
+-- What is the place in a range where the range holds the address, and else nothing, is what that range decides.
+pub placed : (r : Range) (p : ℕ) (found : Option Place) → is_some found ≡ holds r p → IfSome found (λ place. place ≡ place_in r p)
+    → found ≡ when (holds r p) (Some (place_in r p)) None
+placed r p None held there = sym (when_pass _ _ _ (sym held))
+placed r p (Some place) held there = ap Some there ∙ sym (when_hit _ _ _ (sym held))
 
 -- Each range of a list whose ranges are all inside is.
 inside_at : (size : ℕ) (l : List (List ℕ)) (i : ℕ) (d : List ℕ) → list_all (inside size) (map range_of l) ≡ true → i < length l

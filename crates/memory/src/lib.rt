@@ -21,6 +21,7 @@ pub struct Range {
 }
 
 // Where an address stands: its offset in the slice, and how many bytes its range has from there on.
+// An offset and no slice: an answer about a table says where in the slice it stands.
 #[derive(Clone, Copy)]
 pub struct Place {
     pub offset: usize,
@@ -111,7 +112,7 @@ pub fn is_right(image: &[u8], ranges: &[u64]) -> bool
 }
 
 // Memory as it is lent: the slice, with a list of ranges that is right for it. Every question about addresses is asked of it.
-// What is read of the slice may outlive the list.
+// What is read of the slice may outlive the list, which stays flat, three numbers for a range, as callers lend it.
 #[derive(Clone, Copy)]
 pub struct Memory<'a, 'r> {
     pub image: &'a [u8],
@@ -149,14 +150,11 @@ impl<'a, 'r> Memory<'a, 'r> {
         ensures { result ≡ place_of (ranges_of self.entry.ranges.now) p }
     {
         let range = self.last_up_to(p)?;
-        if range.has(p) {
-            Some(range.place(p))
-        } else {
-            None
-        }
+        range.has(p).then(|| range.place(p))
     }
 
-    // All bytes from the address to the end of its range; none where no range holds it.
+    // All bytes from the address to the end of its range; an empty slice where no range holds it, and no Option: unmapped and
+    // too short are one case (docs/DECISIONS.md, 2).
     pub fn view(self, p: u64) -> &'a [u8]
         ensures { result.now ≡ view_of self.entry.image.now self.entry.ranges.now p }
     {
