@@ -3,25 +3,13 @@ use Rattle.std.proofs.Common.{cond, ℕ, ◌≤◌, ◌≡◌, refl, subst, List
 use Rattle.std.specs.Prelude.{Option, Some, None, Result, Ok, Err}
 use Rattle.std.specs.Option.{ok_or}
 use Rattle.std.proofs.lemmas.Bool.Decides.{nat_tests}
-use Rattle.field.specs.First.{when}
 use Rattle.field.specs.Then.{and_then}
-use Rattle.field.proofs.FirstLaws.{less_false, err_not_ok}
+use Rattle.field.proofs.FirstLaws.{less_false, err_not_ok, when_cases}
 use Rattle.refusal.specs.declared.Refusal.TheVariants.{NotThere}
 use Rattle.mcfg.specs.Entries.{length_checked, entries}
 use Rattle.mcfg.specs.Physical.{includes, window_of, function_in, address_in, physical_address_of, First, InWindow, AddressIsInWindow}
 use Rattle.mcfg.specs.Physical.First.{here, later}
 use Rattle.mcfg.specs.declared.McfgEntry.{McfgEntry}
-
--- What a choice gives it gives by its first case or by the rest.
-when_cases :
-    {A C : Type 0} (t : Bool) (x rest : A) {y : A} →
-    when t x rest ≡ y →
-    (t ≡ true → x ≡ y → C) →
-    (t ≡ false → rest ≡ y → C) →
-    C
-unfolding when
-when_cases true x rest e first others = first refl e
-when_cases false x rest e first others = others refl e
 
 -- A value that an answer led to came from a value, and one that was looked for was found.
 answered :

@@ -1,9 +1,8 @@
 // The MCFG table: where the configuration space of PCI functions lies in memory (PCI Firmware Specification 3.x, section 4.1.2).
 #![tactic(auto)]
 
-ghost use Rattle.std.specs.Prelude.{◌≡◌, ◌+◌, ◌*◌, ◌≤◌, length, OnOk, IfOk, IfSome};
-ghost use Rattle.std.specs.Iterator.{YieldsFirst, item_count};
-ghost use Rattle.mcfg.specs.Entries.{length_checked, entry_at, entries_from, entries, entry_count_of, entry_of};
+ghost use Rattle.std.specs.Prelude.{◌≡◌, ◌+◌, ◌*◌, ◌≤◌, length, map, Ok, Err, IfOk, IfErr, IfSome};
+ghost use Rattle.mcfg.specs.Entries.{length_checked, entry_at, entries, entry_count_of, entry_of};
 ghost use Rattle.mcfg.specs.Physical.{includes, window_of, address_in, physical_address_of};
 
 use refusal::Refusal;
@@ -42,90 +41,60 @@ impl McfgEntry {
     }
 }
 
-// The entries from an offset to the table's end.
-#[derive(Clone, Copy)]
-struct Entries<'a> {
-    table: &'a [u8],
-    at: usize,
-    ghost inside: { at ≤ length table.now },
-}
-
-impl Iterator for Entries<'_> {
-    type Item = McfgEntry;
-
-    ghost next_gives = { YieldsFirst (λ s. entries_from s.table.now s.at) };
-
-    ghost remaining = { item_count (λ s. entries_from s.table.now s.at) };
-
-    #[tactic(auto, using(crate::proofs::EntryLaws::from_step, crate::proofs::EntryLaws::from_end))]
-    fn next(&mut self) -> Option<McfgEntry> {
-        if self.table.len() - self.at < 16 {
-            return None;
-        }
-        let entry = entry_at(self.table, self.at);
-        self.at += 16;
-        Some(entry)
-    }
-}
-
-// Refuses a slice that is too short for an MCFG or not as long as the table states.
-#[tactic(auto, unfolding(crate::specs::Entries::length_checked, field::specs::First::checked, field::specs::First::less, field::specs::First::differ, field::specs::First::when))]
-fn check_length(table: &[u8]) -> Result<(), Refusal>
-    ensures value { result ≡ length_checked table.now }
-    ensures long { OnOk result (44 ≤ length table.now) }
+// The entries behind the fixed part, 16 bytes each; what is left of a cut-off one is none. Refuses a slice that is too short for
+// an MCFG or not as long as the table states.
+fn structures(table: &[u8]) -> Result<&[[u8; 16]], Refusal>
+    ensures long { IfOk result (λ _. length_checked table.now ≡ Ok tt) }
+    ensures short { IfErr result (λ refusal. length_checked table.now ≡ Err refusal) }
+    ensures entries { IfOk result (λ list. map (λ bytes. entry_at bytes 0) list.now ≡ entries table.now) }
+    ensures inside { IfOk result (λ list. 44 + 16 * length list.now ≤ length table.now) }
 {
-    if table.len() < 44 || field::u32_at(table, 4) as usize != table.len() {
-        return Err(Refusal::TooShort);
-    }
-    Ok(())
+    sdt::check_whole(table, 44)?;
+    let (structures, _) = table[44..].as_chunks();
+    Ok(structures)
 }
 
-// The entry at an offset.
+// The entry that 16 bytes hold.
 #[tactic(auto, unfolding(crate::specs::Entries::entry_at))]
-fn entry_at(table: &[u8], at: usize) -> McfgEntry
-    requires { at + 16 ≤ length table.now }
-    ensures { result ≡ entry_at table.now at }
+fn read(bytes: &[u8; 16]) -> McfgEntry
+    ensures { result ≡ entry_at bytes.now 0 }
 {
     McfgEntry {
-        base_address: field::u64_at(table, at),
-        pci_segment_group: field::u16_at(table, at + 8),
-        bus_number_start: field::u8_at(table, at + 10),
-        bus_number_end: field::u8_at(table, at + 11),
+        base_address: field::u64_at(bytes, 0),
+        pci_segment_group: field::u16_at(bytes, 8),
+        bus_number_start: field::u8_at(bytes, 10),
+        bus_number_end: field::u8_at(bytes, 11),
     }
 }
 
 // How many entries there are.
-#[tactic(auto, using(crate::proofs::EntryLaws::entries_length), unfolding(crate::specs::Entries::entry_count_of, crate::specs::Entries::entries, crate::specs::Entries::entries_from))]
 pub fn entry_count(table: &[u8]) -> Result<usize, Refusal>
     ensures value { result ≡ entry_count_of table.now }
     ensures inside { IfOk result (λ n. 44 + 16 * n ≤ length table.now) }
 {
-    check_length(table)?;
-    Ok((table.len() - 44) / 16)
+    Ok(structures(table)?.len())
 }
 
 // The k-th entry, counted from 0.
-#[tactic(auto, using(crate::proofs::EntryLaws::entries_length, crate::proofs::EntryLaws::kth_inside), unfolding(crate::specs::Entries::entry_of, crate::specs::Entries::entry_count_of, crate::specs::Entries::entries, crate::specs::Entries::entries_from))]
 pub fn entry(table: &[u8], k: usize) -> Result<McfgEntry, Refusal>
     ensures { result ≡ entry_of table.now k }
 {
-    if entry_count(table)? <= k {
-        return Err(Refusal::NotThere);
-    }
-    Ok(entry_at(table, 44 + 16 * k))
+    let bytes = structures(table)?.get(k).ok_or(Refusal::NotThere)?;
+    Ok(read(bytes))
 }
 
 // The first entry that includes the bus.
-#[tactic(auto, unfolding(crate::specs::Entries::entries))]
-fn first_window(table: &[u8], segment: u16, bus: u8) -> Option<McfgEntry>
-    requires { 44 ≤ length table.now }
-    ensures first { result ≡ window_of segment bus (entries table.now) }
+fn first_window(structures: &[[u8; 16]], segment: u16, bus: u8) -> Option<McfgEntry>
+    ensures first { result ≡ window_of segment bus (map (λ bytes. entry_at bytes 0) structures.now) }
     ensures from { IfSome result (λ e. e.bus_number_start ≤ bus) }
 {
-    Entries { table, at: 44 }.find(|e| e.includes(segment, bus))
+    structures
+        .iter()
+        .map(|bytes| read(bytes))
+        .find(|e| e.includes(segment, bus))
 }
 
-// The physical address of the configuration space of a function.
+// The physical address of the configuration space of a function. Four numbers and no struct, as callers ask.
 #[tactic(auto, unfolding(crate::specs::Physical::physical_address_of, field::specs::First::less, field::specs::First::when))]
 pub fn physical_address(
     table: &[u8],
@@ -136,10 +105,10 @@ pub fn physical_address(
 ) -> Result<u64, Refusal>
     ensures { result ≡ physical_address_of table.now segment bus device function }
 {
-    check_length(table)?;
+    let structures = structures(table)?;
     if 31 < device || 7 < function {
         return Err(Refusal::NotThere);
     }
-    let window = first_window(table, segment, bus).ok_or(Refusal::NotThere)?;
+    let window = first_window(structures, segment, bus).ok_or(Refusal::NotThere)?;
     window.address_in(bus, device, function)
 }
