@@ -49,7 +49,8 @@ impl From<u8> for Kind {
 }
 
 impl Kind {
-    // An entry of another interrupt model is refused: no length byte can say 256.
+    // An entry of another interrupt model is refused: no length byte can say 256. It is no Option, since `least_length`
+    // is promised for every kind.
     pub fn least_length(self) -> usize
         ensures { result ≡ least_length self }
     {
@@ -99,7 +100,8 @@ pub fn fixed_part(table: &[u8]) -> Result<Madt, Refusal>
     })
 }
 
-// An entry by its kind, the kind's number, its offset in the table and its length.
+// An entry by its kind, the kind's number, its offset in the table and its length. These are numbers and no slice: they
+// are what callers in other languages are told.
 #[derive(Clone, Copy)]
 pub struct MadtEntry {
     pub kind: Kind,

@@ -49,7 +49,8 @@ damaged :
 unfolding model_of refusals not_madt model_with madt_of checked differ when less number entries entries_from walk next_at item_at kind_of kinds faulty some those last_address fixed
 damaged = refl
 
--- An override of another bus is 16, and 15 where there is no processor either. Of two address overrides the last wins.
+-- An override of another bus is WrongEntryField, and InconsistentEntry where there is no processor either. Of two address
+-- overrides the last wins.
 other_bus : model_of (fixed 62 ++ 2 ∷ 10 ∷ 1 ∷ 0 ∷ 2 ∷ 0 ∷ 0 ∷ 0 ∷ 0 ∷ 0 ∷ 0 ∷ 8 ∷ 0 ∷ 0 ∷ 1 ∷ 0 ∷ 0 ∷ 0 ∷ []) ≡ Err WrongEntryField
 unfolding model_of refusals not_madt model_with madt_of checked differ when less number entries entries_from walk next_at item_at kind_of kinds faulty some those last_address fixed
 other_bus = refl

@@ -1,6 +1,7 @@
 -- Laws about functions of the entries.
-use Rattle.std.proofs.Common.{suc, ◌≤◌, ◌≡◌, refl, ◌∙◌, List, [], ◌∷◌, Bool, true, false, ◌||◌, true≢false, arith, length}
+use Rattle.std.proofs.Common.{suc, ◌≤◌, ◌≡◌, refl, ◌∙◌, List, [], ◌∷◌, Bool, true, false, true≢false, arith, length}
 use Rattle.std.specs.Prelude.{Ok, Err}
+use Rattle.std.proofs.lemmas.Bool.{or_parts}
 use Rattle.field.specs.First.{when}
 use Rattle.field.proofs.FirstLaws.{when_pass}
 use Rattle.madt.specs.Entries.{entries}
@@ -9,15 +10,6 @@ use Rattle.madt.specs.declared.Kind.{Kind}
 use Rattle.madt.specs.declared.Kind.TheVariants.{MultiprocessorWakeup, Foreign, Reserved}
 use Rattle.platform.specs.Lists.{ListName, goes_to, of_model, those}
 use Rattle.platform.specs.Model.{some, belongs, model_with, UnknownIsEmpty}
-
--- Where one or the other fails, both do.
-pub record Neither (a b : Bool) : Type 0 where
-  pub left : a ≡ false
-  pub right : b ≡ false
-
-pub neither : (a b : Bool) → (a || b) ≡ false → Neither a b
-neither true b h = absurd (true≢false h)
-neither false b h = record { left = refl; right = h }
 
 -- A kind that does not belong to the model goes to no list.
 stranger : (k : Kind) (l : ListName) → of_model k ≡ false → goes_to k l ≡ false
@@ -45,8 +37,8 @@ unfolding some those
 none_belongs l [] h = refl
 none_belongs l (Err r ∷ items) h = none_belongs l items h
 none_belongs l (Ok e ∷ items) h =
-    let both = neither (of_model e.kind) (some belongs items) h in
-    when_pass _ _ _ (stranger e.kind l both.left) ∙ none_belongs l items both.right
+    let both = or_parts (of_model e.kind) (some belongs items) h in
+    when_pass _ _ _ (stranger e.kind l both.0) ∙ none_belongs l items both.1
 
 pub unknown_is_empty : UnknownIsEmpty
 unfolding model_with

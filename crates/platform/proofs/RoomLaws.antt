@@ -1,6 +1,7 @@
 -- Laws about the room in the lent tables, and about what refuses to fill them.
 use Rattle.std.proofs.Common.{ℕ, ◌*◌, ◌/◌, ◌≤◌, ◌≡◌, refl, ap, sym, ◌∙◌, List, [], ◌∷◌, Bool, true, false, true≢false, mul-zero, mul-suc, arith, length, length-append}
 use Rattle.std.specs.Prelude.{Result, Ok, Err}
+use Rattle.std.proofs.lemmas.Bool.{or_parts}
 use Rattle.refusal.specs.Number.{number_of}
 use Rattle.refusal.specs.declared.Refusal.{Refusal}
 use Rattle.refusal.specs.declared.Refusal.TheVariants.{BufferTooShort}
@@ -27,7 +28,6 @@ use Rattle.platform.specs.Records.{record_of, spelled, words_of, waiting, runnin
 use Rattle.platform.specs.Model.{model_with, refusals, RefusalsAscend, model_of}
 use Rattle.platform.specs.Fill.{too_short, fill_refusals, fill_checked, FillRefusalsAscend, Filled}
 use Rattle.platform.specs.Inner.{count}
-use Rattle.platform.proofs.ListLaws.{neither}
 use Rattle.platform.proofs.FillLaws.{of_list}
 
 pub refusals_ascend : RefusalsAscend
@@ -124,16 +124,16 @@ module _ (s : List ℕ) (p i o n l : ℕ) where
   rooms_or_short : too_short s p i o n l ≡ false → Rooms s p i o n l
   unfolding too_short
   rooms_or_short h =
-      let c₄ = neither _ _ h in
-      let c₃ = neither _ _ c₄.left in
-      let c₂ = neither _ _ c₃.left in
-      let c₁ = neither _ _ c₂.left in
+      let c₄ = or_parts _ _ h in
+      let c₃ = or_parts _ _ c₄.0 in
+      let c₂ = or_parts _ _ c₃.0 in
+      let c₁ = or_parts _ _ c₂.0 in
       elim [
-        | processors ↦ less_false _ _ c₁.left
-        | io_apics ↦ less_false _ _ c₁.right
-        | interrupt_source_overrides ↦ less_false _ _ c₂.right
-        | nmi_sources ↦ less_false _ _ c₃.right
-        | local_apic_nmi_lines ↦ less_false _ _ c₄.right
+        | processors ↦ less_false _ _ c₁.0
+        | io_apics ↦ less_false _ _ c₁.1
+        | interrupt_source_overrides ↦ less_false _ _ c₂.1
+        | nmi_sources ↦ less_false _ _ c₃.1
+        | local_apic_nmi_lines ↦ less_false _ _ c₄.1
       ]
 
   pub fill_short : checked (refusals s) ≡ Ok tt → (Rooms s p i o n l → ⊥) → Err BufferTooShort ≡ fill_checked s p i o n l

@@ -16,7 +16,7 @@ abbrev pub is_wakeup : Kind → Bool
 is_wakeup MultiprocessorWakeup = true
 is_wakeup _ = false
 
--- the mailbox of the first Multiprocessor Wakeup entry, 15 where there is none
+-- the mailbox of the first Multiprocessor Wakeup entry, InconsistentEntry where there is none
 unfoldable pub first_mailbox : List ℕ → List (Result MadtEntry Refusal) → Result ℕ Refusal
 first_mailbox s [] = Err InconsistentEntry
 first_mailbox s (Ok e ∷ items) = when (is_wakeup e.kind) (Ok (value s e.at mailbox_address)) (first_mailbox s items)

@@ -1,4 +1,4 @@
--- What is wrong in an entry that is long enough: 16 (docs/TABLES.md, section 11).
+-- What is wrong in an entry that is long enough: WrongEntryField (docs/TABLES.md, section 11).
 use Rattle.std.specs.Prelude.{ℕ, ◌/◌, ◌%◌, List, Bool, false, not, ◌||◌, ◌==◌, nat_lt}
 use Rattle.madt.specs.Fields.{
   value,

@@ -20,7 +20,8 @@ use refusal::Refusal;
 
 // The model, by the names of the Rust crate: how many records each of its lists has, the address of the local
 // interrupt controllers, and whether the machine also has the old pair of controllers. It is known if an entry of
-// this model is there; where it is not known, all lists are empty.
+// this model is there; where it is not known, all lists are empty. `known` is a field and no Option around the others:
+// where it is false the address and the old controllers are told all the same, as `model_of` says.
 #[derive(Clone, Copy, Default)]
 pub struct Model {
     pub known: bool,
@@ -53,7 +54,7 @@ fn wrong_flags(table: &[u8], at: usize) -> bool
 }
 
 // Whether what an entry says can not be. Only the ISA bus, 0, has overrides, and a local interrupt controller has the
-// lines 0 and 1.
+// lines 0 and 1. Each kind's fields stand beside its name: closures would be looked up by the same match.
 fn wrong_at(table: &[u8], e: MadtEntry) -> bool
     requires { e.at + least_length e.kind ≤ length table.now }
     ensures { result ≡ wrong_at table.now e.at e.kind }
@@ -71,7 +72,8 @@ fn wrong_at(table: &[u8], e: MadtEntry) -> bool
 
 impl Model {
     // Takes in one more entry: a processor, controller, override or interrupt is counted, and an address override
-    // replaces the address that was there before.
+    // replaces the address that was there before. A table of closures, or of the counts, would be looked up by the same
+    // match.
     fn take_in(&mut self, table: &[u8], e: MadtEntry)
         requires inside { e.at + least_length e.kind ≤ length table.now }
         requires fits { (l : ListName) → count self.old l < usize.MAX }
@@ -92,7 +94,8 @@ impl Model {
     }
 }
 
-// What going through all entries tells: whether an entry is wrong, and the model.
+// What going through all entries tells: whether an entry is wrong, and the model. A wrong entry is no refusal yet: a
+// model without a processor is refused first (`model_of`), and a mailbox doesn't mind (`mailbox_of`).
 #[derive(Clone, Copy)]
 struct Seen {
     wrong: bool,
@@ -105,14 +108,9 @@ fn survey(table: &[u8], m: Madt) -> Result<Seen, Refusal>
 {
     let mut wrong = false;
     let mut model = Model {
-        known: false,
         local_apic_address: m.local_apic_address as u64,
         also_has_legacy_pics: m.supports_8259,
-        processors: 0,
-        io_apics: 0,
-        interrupt_source_overrides: 0,
-        nmi_sources: 0,
-        local_apic_nmi_lines: 0,
+        ..Model::default()
     };
     for item in madt::entries(table) {
         let e = item?;
@@ -122,7 +120,8 @@ fn survey(table: &[u8], m: Madt) -> Result<Seen, Refusal>
     Ok(Seen { wrong, model })
 }
 
-// The interrupt model, or the refusal with the smallest number: 15 goes before 16, wherever the entries stand.
+// The interrupt model, or the refusal with the smallest number: `InconsistentEntry` goes before `WrongEntryField`, wherever the
+// entries stand.
 #[tactic(auto, unfolding(crate::specs::Model::model_of, crate::specs::Model::refusals, crate::specs::Inner::seen_of, madt::specs::Fixed::fixed_of, madt::specs::Fixed::madt_checked, field::specs::First::checked, field::specs::First::when))]
 pub fn interrupt_model(table: &[u8]) -> Result<Model, Refusal>
     ensures { result ≡ model_of table.now }
@@ -175,7 +174,8 @@ fn inti_flags(table: &[u8], at: usize) -> u32
     (field::u16_at(table, at) % 16) as u32
 }
 
-// The record of an entry. `enabled` is the state of a processor that may be used; only processors have one.
+// The record of an entry. `enabled` is the state of a processor that may be used; only processors have one. As in
+// `wrong_at`, each kind's fields stand beside its name.
 fn record_of(table: &[u8], enabled: u32, e: MadtEntry) -> Option<Record>
     requires { e.at + least_length e.kind ≤ length table.now }
     ensures { result ≡ record_of table.now enabled e.at e.kind }
