@@ -20,7 +20,9 @@ use Rattle.platform.specs.declared.Record.{Record}
 use Rattle.platform.specs.declared.Record.TheVariants.{Processor, IoApic as IoApicRecord, Override, NmiSource as NmiSourceRecord, NmiLine}
 use Rattle.platform.specs.Lists.{ListName, goes_to, those}
 use Rattle.platform.specs.Lists.ListName.{processors, io_apics, interrupt_source_overrides, nmi_sources, local_apic_nmi_lines}
-use Rattle.platform.specs.Records.{record_of, spelled, words_of, waiting, running, list}
+use Rattle.platform.specs.Records.{record_of, spelled, words_of, list}
+use Rattle.platform.specs.declared.State.{State}
+use Rattle.platform.specs.declared.State.TheVariants.{Waiting, Running}
 use Rattle.platform.specs.Fill.{over}
 use Rattle.platform.specs.Inner.{enabled_at}
 
@@ -42,11 +44,11 @@ is_for (Some (NmiLine w)) local_apic_nmi_lines = true
 is_for _ _ = false
 
 -- It is the list that the entry goes to, and the record has some words.
-same_list : (s : List ℕ) (enabled at : ℕ) (k : Kind) (l : ListName) → goes_to k l ≡ is_for (record_of s enabled at k) l
+same_list : (s : List ℕ) (enabled : State) (at : ℕ) (k : Kind) (l : ListName) → goes_to k l ≡ is_for (record_of s enabled at k) l
 same_list s enabled at LocalApic processors = refl
 same_list s enabled at _ _ = refl
 
-some_words : (s : List ℕ) (enabled at : ℕ) (k : Kind) (l : ListName) → goes_to k l ≡ true → 0 < length (spelled (record_of s enabled at k))
+some_words : (s : List ℕ) (enabled : State) (at : ℕ) (k : Kind) (l : ListName) → goes_to k l ≡ true → 0 < length (spelled (record_of s enabled at k))
 some_words s enabled at LocalApic l h = omega arith
 some_words s enabled at LocalX2Apic l h = omega arith
 some_words s enabled at IoApic l h = omega arith
@@ -57,11 +59,11 @@ some_words s enabled at X2ApicNmi l h = omega arith
 some_words s enabled at _ l h = absurd (true≢false (sym h))
 
 -- Once a word is written, another processor waits.
-later_waits : (to : ℕ) → 0 < to → enabled_at to ≡ waiting
-later_waits to h = ap (λ b. if b then running else waiting) (ne_eqb to 0 (λ e. omega arith))
+later_waits : (to : ℕ) → 0 < to → enabled_at to ≡ Waiting
+later_waits to h = ap (λ b. if b then Running else Waiting) (ne_eqb to 0 (λ e. omega arith))
 
 -- Only processors have a state.
-pub no_state : (s : List ℕ) (a b at : ℕ) (k : Kind) → goes_to k processors ≡ false → record_of s a at k ≡ record_of s b at k
+pub no_state : (s : List ℕ) (a b : State) (at : ℕ) (k : Kind) → goes_to k processors ≡ false → record_of s a at k ≡ record_of s b at k
 no_state s a b at LocalApic h = absurd (true≢false h)
 no_state s a b at LocalX2Apic h = absurd (true≢false h)
 no_state s a b at _ h = refl
@@ -94,7 +96,7 @@ pub record Turn (s : List ℕ) (items rest : List Item) (p : ℕ) (e : MadtEntry
   pub told : record_of s (enabled_at p) e.at e.kind ≡ r
 
 pub turn :
-    {s : List ℕ} {items rest : List Item} {p enabled : ℕ} {item : Item} {e : MadtEntry} {r result : Option Record} →
+    {s : List ℕ} {items rest : List Item} {p : ℕ} {enabled : State} {item : Item} {e : MadtEntry} {r result : Option Record} →
     items ≡ item ∷ rest → item ≡ Ok e → enabled ≡ enabled_at p → result ≡ record_of s enabled e.at e.kind → result ≡ r →
     Turn s items rest p e r
 turn {s} {rest = rest} {e = e} q is state told same =

@@ -24,7 +24,9 @@ use Rattle.madt.specs.declared.Kind.TheVariants.{
 use Rattle.platform.specs.declared.Model.{Model}
 use Rattle.platform.specs.Lists.{ListName, goes_to, those}
 use Rattle.platform.specs.Lists.ListName.{processors, io_apics, interrupt_source_overrides, nmi_sources, local_apic_nmi_lines}
-use Rattle.platform.specs.Records.{record_of, spelled, words_of, waiting, running, list}
+use Rattle.platform.specs.Records.{record_of, spelled, words_of, list}
+use Rattle.platform.specs.declared.State.{State}
+use Rattle.platform.specs.declared.State.TheVariants.{Waiting, Running}
 use Rattle.platform.specs.Model.{model_with, refusals, RefusalsAscend, model_of}
 use Rattle.platform.specs.Fill.{too_short, fill_refusals, fill_checked, FillRefusalsAscend, Filled}
 use Rattle.platform.specs.Inner.{count}
@@ -46,7 +48,7 @@ width interrupt_source_overrides = 3
 width nmi_sources = 2
 width local_apic_nmi_lines = 2
 
-record_width : (s : List ℕ) (enabled at : ℕ) (k : Kind) (l : ListName) → goes_to k l ≡ true → length (spelled (record_of s enabled at k)) ≡ width l
+record_width : (s : List ℕ) (enabled : State) (at : ℕ) (k : Kind) (l : ListName) → goes_to k l ≡ true → length (spelled (record_of s enabled at k)) ≡ width l
 record_width s enabled at LocalApic processors h = refl
 record_width s enabled at LocalX2Apic processors h = refl
 record_width s enabled at IoApic io_apics h = refl
@@ -58,20 +60,20 @@ record_width s enabled at _ _ h = absurd (true≢false (sym h))
 
 -- So a list has as many words as its records have together.
 words_width :
-    (s : List ℕ) (l : ListName) (enabled : ℕ) (items : List Item) →
+    (s : List ℕ) (l : ListName) (enabled : State) (items : List Item) →
     length (words_of s enabled (those l items)) ≡ width l * length (those l items)
 unfolding words_of those when
 words_width s l enabled [] = sym (mul-zero (width l))
 words_width s l enabled (Err r ∷ items) = words_width s l enabled items
-words_width s l enabled (Ok e ∷ items) = go (goes_to e.kind l) refl (words_width s l enabled items) (words_width s l waiting items)
+words_width s l enabled (Ok e ∷ items) = go (goes_to e.kind l) refl (words_width s l enabled items) (words_width s l Waiting items)
   where
     go :
         (t : Bool) → goes_to e.kind l ≡ t →
         length (words_of s enabled (those l items)) ≡ width l * length (those l items) →
-        length (words_of s waiting (those l items)) ≡ width l * length (those l items) →
+        length (words_of s Waiting (those l items)) ≡ width l * length (those l items) →
         length (words_of s enabled (when t (e ∷ those l items) (those l items))) ≡ width l * length (when t (e ∷ those l items) (those l items))
     go true d h₁ h₂ =
-        length-append (spelled (record_of s enabled e.at e.kind)) (words_of s waiting (those l items))
+        length-append (spelled (record_of s enabled e.at e.kind)) (words_of s Waiting (those l items))
         ∙ rw (record_width s enabled e.at e.kind l d, h₂, mul-suc (width l) (length (those l items))) (omega arith)
     go false d h₁ h₂ = h₁
 
@@ -94,7 +96,7 @@ accepted {s} {m} h = go (checked (refusals s)) refl
         let same : model_with s (madt_of s) ≡ m = cc (then_ok (λ _. Ok (model_with s (madt_of s))) e) in
         record {
           none = e;
-          words = λ l. words_width s l running (entries s) ∙ ap (λ n. width l * n) (sym (counted s l) ∙ ap (λ m. count m l) same);
+          words = λ l. words_width s l Running (entries s) ∙ ap (λ n. width l * n) (sym (counted s l) ∙ ap (λ m. count m l) same);
         }
     go (Err r) e = absurd (cc (then_err (λ _. Ok (model_with s (madt_of s))) e))
 

@@ -10,7 +10,8 @@ use Rattle.platform.specs.declared.Model.{Model}
 use Rattle.platform.specs.declared.Seen.{Seen}
 use Rattle.platform.specs.Lists.{ListName, goes_to, of_model}
 use Rattle.platform.specs.Lists.ListName.{processors, io_apics, interrupt_source_overrides, nmi_sources, local_apic_nmi_lines}
-use Rattle.platform.specs.Records.{waiting, running}
+use Rattle.platform.specs.declared.State.{State}
+use Rattle.platform.specs.declared.State.TheVariants.{Waiting, Running}
 use Rattle.platform.specs.Model.{some, wrong, model_with, address_after}
 
 -- how many records the model has in a list
@@ -41,5 +42,5 @@ seen_of s m =
     when (faulty (entries s)) (Err InconsistentEntry) (Ok (record { wrong = some (wrong s) (entries s); model = model_with s m }))
 
 -- the state of the next processor that is enabled, where so many words are written already
-abbrev pub enabled_at : ℕ → ℕ
-enabled_at to = if to == 0 then running else waiting
+abbrev pub enabled_at : ℕ → State
+enabled_at to = if to == 0 then Running else Waiting

@@ -33,23 +33,21 @@ use Rattle.madt.specs.declared.Kind.TheVariants.{
   LocalX2Apic,
   X2ApicNmi,
 }
+use Rattle.platform.specs.declared.State.{State}
+use Rattle.platform.specs.declared.State.TheVariants.{Disabled, Waiting, Running}
 use Rattle.platform.specs.declared.Record.{Record}
 use Rattle.platform.specs.declared.Record.TheVariants.{Processor, IoApic as IoApicRecord, Override, NmiSource as NmiSourceRecord, NmiLine}
 use Rattle.platform.specs.Lists.{ListName, those}
 
--- the states of a processor
-abbrev pub disabled : ℕ
-disabled = 0
-
-abbrev pub waiting : ℕ
-waiting = 1
-
-abbrev pub running : ℕ
-running = 2
+-- the number of each state of a processor
+abbrev pub state_number : State → ℕ
+state_number Disabled = 0
+state_number Waiting = 1
+state_number Running = 2
 
 -- Bit 0 of the Local APIC flags, Enabled (5.2.12.2): a processor without it is disabled, one with it is in the state `enabled`.
-abbrev pub state_of : ℕ → ℕ → ℕ
-state_of flags enabled = if flags % 2 == 1 then enabled else disabled
+abbrev pub state_of : ℕ → State → State
+state_of flags enabled = if flags % 2 == 1 then enabled else Disabled
 
 -- The uid 0xff of a Local APIC NMI entry stands for all processors (5.2.12.7). In a record 0xffffffff does, as in an entry for
 -- the x2APIC (5.2.12.13).
@@ -58,11 +56,11 @@ uid_or_all uid = if uid == 0xff then 0xffff_ffff else uid
 
 -- The record of an entry of each kind: its list, and its two or three words. Of the MPS INTI flags (5.2.12.5) the low four bits
 -- are told, polarity and trigger.
-abbrev pub record_of : List ℕ → ℕ → ℕ → Kind → Option Record
+abbrev pub record_of : List ℕ → State → ℕ → Kind → Option Record
 record_of s enabled at LocalApic =
-    Some (Processor (value s at local_apic_uid ∷ value s at local_apic_id ∷ state_of (value s at local_apic_flags) enabled ∷ []))
+    Some (Processor (value s at local_apic_uid ∷ value s at local_apic_id ∷ state_number (state_of (value s at local_apic_flags) enabled) ∷ []))
 record_of s enabled at LocalX2Apic =
-    Some (Processor (value s at local_x2apic_uid ∷ value s at local_x2apic_id ∷ state_of (value s at local_x2apic_flags) enabled ∷ []))
+    Some (Processor (value s at local_x2apic_uid ∷ value s at local_x2apic_id ∷ state_number (state_of (value s at local_x2apic_flags) enabled) ∷ []))
 record_of s enabled at IoApic =
     Some (IoApicRecord (value s at io_apic_id ∷ value s at io_apic_address ∷ value s at io_apic_interrupt_base ∷ []))
 record_of s enabled at InterruptSourceOverride =
@@ -84,10 +82,10 @@ spelled (Some (NmiSourceRecord words)) = words
 spelled (Some (NmiLine words)) = words
 
 -- The records of some entries, one after the other. The state of the first that is enabled is given, the others wait.
-unfoldable pub words_of : List ℕ → ℕ → List MadtEntry → List ℕ
+unfoldable pub words_of : List ℕ → State → List MadtEntry → List ℕ
 words_of s enabled [] = []
-words_of s enabled (e ∷ es) = spelled (record_of s enabled e.at e.kind) ++ words_of s waiting es
+words_of s enabled (e ∷ es) = spelled (record_of s enabled e.at e.kind) ++ words_of s Waiting es
 
 -- What list l holds. The first processor is the boot processor, which runs.
 unfoldable pub list : ListName → List ℕ → List ℕ
-list l s = words_of s running (those l (entries s))
+list l s = words_of s Running (those l (entries s))

@@ -7,13 +7,13 @@ ghost use Rattle.std.specs.Prelude.{◌≡◌, ◌+◌, ◌<◌, ◌≤◌, ◌%
 ghost use Rattle.field.specs.Number.{number};
 ghost use Rattle.madt.specs.Kinds.{least_length};
 ghost use Rattle.madt.specs.Entries.{entries};
-ghost use Rattle.platform.specs.Lists.{ListName, of_model};
+ghost use Rattle.platform.specs.Lists.{of_model};
 ghost use Rattle.platform.specs.Records.{state_of, uid_or_all, record_of};
 ghost use Rattle.platform.specs.Wrong.{wrong_flags, wrong_at};
 ghost use Rattle.platform.specs.Model.{model_of};
 ghost use Rattle.platform.specs.Fill.{Filled};
 ghost use Rattle.platform.specs.Mailbox.{first_mailbox, mailbox_of};
-ghost use Rattle.platform.specs.Inner.{count, with_entry, seen_of, enabled_at};
+ghost use Rattle.platform.specs.Inner.{with_entry, seen_of, enabled_at};
 
 use madt::{Kind, Madt, MadtEntry};
 use refusal::Refusal;
@@ -45,49 +45,147 @@ fn of_model(kind: Kind) -> bool
 }
 
 // The value 2 is reserved, for the polarity in bits 0 and 1 and for the trigger in bits 2 and 3.
-fn wrong_flags(table: &[u8], at: usize) -> bool
-    requires { at + 2 ≤ length table.now }
-    ensures { result ≡ wrong_flags (number table.now at 2) }
+fn wrong_flags(flags: u16) -> bool
+    ensures { result ≡ wrong_flags flags }
 {
-    let flags = field::u16_at(table, at);
     flags % 4 == 2 || flags / 4 % 4 == 2
 }
 
-// Whether what an entry says can not be. Only the ISA bus, 0, has overrides, and a local interrupt controller has the
-// lines 0 and 1. Each kind's fields stand beside its name: closures would be looked up by the same match.
-fn wrong_at(table: &[u8], e: MadtEntry) -> bool
-    requires { e.at + least_length e.kind ≤ length table.now }
-    ensures { result ≡ wrong_at table.now e.at e.kind }
+// In a Local APIC NMI entry the number 0xff stands for all processors, in an answer 0xffffffff does.
+fn uid_or_all(uid: u8) -> u32
+    ensures { result ≡ uid_or_all uid }
 {
-    match e.kind {
-        Kind::InterruptSourceOverride => {
-            field::u8_at(table, e.at + 2) != 0 || wrong_flags(table, e.at + 8)
+    if uid == 0xff { 0xffff_ffff } else { uid as u32 }
+}
+
+// What a processor is to do when the operating system starts, by the numbers of docs/TABLES.md.
+#[derive(Clone, Copy)]
+enum State {
+    Disabled = 0,
+    Waiting = 1,
+    Running = 2,
+}
+
+// The state of a processor by bit 0 of its flags: `enabled`, or disabled.
+fn state_of(flags: u32, enabled: State) -> State
+    ensures { result ≡ state_of flags enabled }
+{
+    if flags % 2 == 1 {
+        enabled
+    } else {
+        State::Disabled
+    }
+}
+
+// Polarity and trigger: the low four bits of the flags.
+fn inti_flags(flags: u16) -> u32
+    ensures { result ≡ flags % 16 }
+{
+    (flags % 16) as u32
+}
+
+// An entry's record, by the list that it goes to.
+#[derive(Clone, Copy)]
+enum Record {
+    Processor([u32; 3]),
+    IoApic([u32; 3]),
+    Override([u32; 3]),
+    NmiSource([u32; 2]),
+    NmiLine([u32; 2]),
+}
+
+// An entry, and the table that has all bytes which the entry's kind needs. Each kind's fields stand beside its name:
+// closures would be looked up by the same match.
+#[derive(Clone, Copy)]
+struct Entry<'a> {
+    table: &'a [u8],
+    e: MadtEntry,
+    ghost inside: { e.at + least_length e.kind ≤ length table.now },
+}
+
+impl Entry<'_> {
+    // Whether what the entry says can not be. Only the ISA bus, 0, has overrides, and a local interrupt controller has
+    // the lines 0 and 1.
+    fn is_wrong(self) -> bool
+        ensures { result ≡ wrong_at self.entry.table.now self.entry.e.at self.entry.e.kind }
+    {
+        let table = self.table;
+        let at = self.e.at;
+        match self.e.kind {
+            Kind::InterruptSourceOverride => {
+                field::u8_at(table, at + 2) != 0 || wrong_flags(field::u16_at(table, at + 8))
+            }
+            Kind::NmiSource => wrong_flags(field::u16_at(table, at + 2)),
+            Kind::LocalApicNmi => 1 < field::u8_at(table, at + 5),
+            Kind::X2ApicNmi => 1 < field::u8_at(table, at + 8),
+            _ => false,
         }
-        Kind::NmiSource => wrong_flags(table, e.at + 2),
-        Kind::LocalApicNmi => 1 < field::u8_at(table, e.at + 5),
-        Kind::X2ApicNmi => 1 < field::u8_at(table, e.at + 8),
-        _ => false,
+    }
+
+    // The record of the entry. `enabled` is the state of a processor that may be used; only processors have one.
+    fn to_record(self, enabled: State) -> Option<Record>
+        ensures { result ≡ record_of self.entry.table.now enabled self.entry.e.at self.entry.e.kind }
+    {
+        let table = self.table;
+        let at = self.e.at;
+        match self.e.kind {
+            Kind::LocalApic => Some(Record::Processor([
+                field::u8_at(table, at + 2) as u32,
+                field::u8_at(table, at + 3) as u32,
+                state_of(field::u32_at(table, at + 4), enabled) as u32,
+            ])),
+            Kind::LocalX2Apic => Some(Record::Processor([
+                field::u32_at(table, at + 12),
+                field::u32_at(table, at + 4),
+                state_of(field::u32_at(table, at + 8), enabled) as u32,
+            ])),
+            Kind::IoApic => Some(Record::IoApic([
+                field::u8_at(table, at + 2) as u32,
+                field::u32_at(table, at + 4),
+                field::u32_at(table, at + 8),
+            ])),
+            Kind::InterruptSourceOverride => Some(Record::Override([
+                field::u8_at(table, at + 3) as u32,
+                field::u32_at(table, at + 4),
+                inti_flags(field::u16_at(table, at + 8)),
+            ])),
+            Kind::NmiSource => Some(Record::NmiSource([
+                field::u32_at(table, at + 4),
+                inti_flags(field::u16_at(table, at + 2)),
+            ])),
+            Kind::LocalApicNmi => Some(Record::NmiLine([
+                uid_or_all(field::u8_at(table, at + 2)),
+                field::u8_at(table, at + 5) as u32,
+            ])),
+            Kind::X2ApicNmi => Some(Record::NmiLine([
+                field::u32_at(table, at + 4),
+                field::u8_at(table, at + 8) as u32,
+            ])),
+            _ => None,
+        }
     }
 }
 
 impl Model {
     // Takes in one more entry: a processor, controller, override or interrupt is counted, and an address override
-    // replaces the address that was there before. A table of closures, or of the counts, would be looked up by the same
-    // match.
-    fn take_in(&mut self, table: &[u8], e: MadtEntry)
-        requires inside { e.at + least_length e.kind ≤ length table.now }
-        requires fits { (l : ListName) → count self.old l < usize.MAX }
-        ensures { self.new ≡ with_entry table.now self.old e }
+    // replaces the address that was there before. As in `Entry`, what a kind does stands beside its name.
+    fn take_in(&mut self, entry: Entry)
+        requires processors { self.old.processors < usize.MAX }
+        requires io_apics { self.old.io_apics < usize.MAX }
+        requires overrides { self.old.interrupt_source_overrides < usize.MAX }
+        requires nmi_sources { self.old.nmi_sources < usize.MAX }
+        requires nmi_lines { self.old.local_apic_nmi_lines < usize.MAX }
+        ensures { self.new ≡ with_entry entry.entry.table.now self.old entry.entry.e }
     {
-        self.known |= of_model(e.kind);
-        match e.kind {
+        self.known |= of_model(entry.e.kind);
+        match entry.e.kind {
             Kind::LocalApic | Kind::LocalX2Apic => self.processors += 1,
             Kind::IoApic => self.io_apics += 1,
             Kind::InterruptSourceOverride => self.interrupt_source_overrides += 1,
             Kind::NmiSource => self.nmi_sources += 1,
             Kind::LocalApicNmi | Kind::X2ApicNmi => self.local_apic_nmi_lines += 1,
             Kind::LocalApicAddressOverride => {
-                self.local_apic_address = field::u64_at(table, e.at + 4);
+                self.local_apic_address = field::u64_at(entry.table, entry.e.at + 4);
             }
             _ => {}
         }
@@ -113,9 +211,9 @@ fn survey(table: &[u8], m: Madt) -> Result<Seen, Refusal>
         ..Model::default()
     };
     for item in madt::entries(table) {
-        let e = item?;
-        wrong |= wrong_at(table, e);
-        model.take_in(table, e);
+        let entry = Entry { table, e: item? };
+        wrong |= entry.is_wrong();
+        model.take_in(entry);
     }
     Ok(Seen { wrong, model })
 }
@@ -136,86 +234,6 @@ pub fn interrupt_model(table: &[u8]) -> Result<Model, Refusal>
         return Err(Refusal::WrongEntryField);
     }
     Ok(model)
-}
-
-// An entry's record, by the list that it goes to.
-#[derive(Clone, Copy)]
-enum Record {
-    Processor([u32; 3]),
-    IoApic([u32; 3]),
-    Override([u32; 3]),
-    NmiSource([u32; 2]),
-    NmiLine([u32; 2]),
-}
-
-// In a Local APIC NMI entry the number 0xff stands for all processors, in an answer 0xffffffff does.
-fn uid_or_all(table: &[u8], at: usize) -> u32
-    requires { at + 1 ≤ length table.now }
-    ensures { result ≡ uid_or_all (number table.now at 1) }
-{
-    let uid = field::u8_at(table, at);
-    if uid == 0xff { 0xffff_ffff } else { uid as u32 }
-}
-
-// The state of a processor by bit 0 of its flags: `enabled`, or 0 for disabled.
-fn state(table: &[u8], at: usize, enabled: u32) -> u32
-    requires { at + 4 ≤ length table.now }
-    ensures { result ≡ state_of (number table.now at 4) enabled }
-{
-    let flags = field::u32_at(table, at);
-    if flags % 2 == 1 { enabled } else { 0 }
-}
-
-// Polarity and trigger: the low four bits of the flags.
-fn inti_flags(table: &[u8], at: usize) -> u32
-    requires { at + 2 ≤ length table.now }
-    ensures { result ≡ number table.now at 2 % 16 }
-{
-    (field::u16_at(table, at) % 16) as u32
-}
-
-// The record of an entry. `enabled` is the state of a processor that may be used; only processors have one. As in
-// `wrong_at`, each kind's fields stand beside its name.
-fn record_of(table: &[u8], enabled: u32, e: MadtEntry) -> Option<Record>
-    requires { e.at + least_length e.kind ≤ length table.now }
-    ensures { result ≡ record_of table.now enabled e.at e.kind }
-{
-    let at = e.at;
-    match e.kind {
-        Kind::LocalApic => Some(Record::Processor([
-            field::u8_at(table, at + 2) as u32,
-            field::u8_at(table, at + 3) as u32,
-            state(table, at + 4, enabled),
-        ])),
-        Kind::LocalX2Apic => Some(Record::Processor([
-            field::u32_at(table, at + 12),
-            field::u32_at(table, at + 4),
-            state(table, at + 8, enabled),
-        ])),
-        Kind::IoApic => Some(Record::IoApic([
-            field::u8_at(table, at + 2) as u32,
-            field::u32_at(table, at + 4),
-            field::u32_at(table, at + 8),
-        ])),
-        Kind::InterruptSourceOverride => Some(Record::Override([
-            field::u8_at(table, at + 3) as u32,
-            field::u32_at(table, at + 4),
-            inti_flags(table, at + 8),
-        ])),
-        Kind::NmiSource => Some(Record::NmiSource([
-            field::u32_at(table, at + 4),
-            inti_flags(table, at + 2),
-        ])),
-        Kind::LocalApicNmi => Some(Record::NmiLine([
-            uid_or_all(table, at + 2),
-            field::u8_at(table, at + 5) as u32,
-        ])),
-        Kind::X2ApicNmi => Some(Record::NmiLine([
-            field::u32_at(table, at + 4),
-            field::u8_at(table, at + 8) as u32,
-        ])),
-        _ => None,
-    }
 }
 
 // A lent table, and how many of its words are written. It stays the caller's: the reference keeps its ghost name.
@@ -250,10 +268,14 @@ impl<'a> Lent<'a> {
 }
 
 // The state of the next processor that is enabled: the first one runs, all others wait to be started.
-fn enabled_at(to: usize) -> u32
+fn enabled_at(to: usize) -> State
     ensures { result ≡ enabled_at to }
 {
-    if to == 0 { 2 } else { 1 }
+    if to == 0 {
+        State::Running
+    } else {
+        State::Waiting
+    }
 }
 
 // Fills five lent tables with the records of the model's lists: processors (number, controller id, state: 0 disabled,
@@ -290,7 +312,11 @@ pub fn fill(
     let mut nmi_sources = Lent::new(nmi_sources);
     let mut local_apic_nmi_lines = Lent::new(local_apic_nmi_lines);
     for found in madt::entries(table) {
-        match record_of(table, enabled_at(processors.written), found.unwrap()) {
+        let entry = Entry {
+            table,
+            e: found.unwrap(),
+        };
+        match entry.to_record(enabled_at(processors.written)) {
             Some(Record::Processor(record)) => processors.push(&record),
             Some(Record::IoApic(record)) => io_apics.push(&record),
             Some(Record::Override(record)) => interrupt_source_overrides.push(&record),

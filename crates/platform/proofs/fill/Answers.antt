@@ -11,7 +11,7 @@ use Rattle.platform.proofs.RoomLaws.{Rooms, accepted, refused, sound, fill_refus
 use Rattle.platform.proofs.FillLaws.{Turn, fill_start, fill_end, turn, fill_room, fill_mine, fill_other}
 use Rattle.platform.proofs.fill.Goals as goal
 use Rattle.platform.proofs.fill.Goals.{
-  After-record_of,
+  After-to_record,
   then-processors-m-via-then-processors-m,
   then-processors-m-via-else-processors-m+then-io_apics-m,
   then-processors-m-via-else-processors-m+else-io_apics-m+then-interrupt_source_overrides-m,
@@ -39,9 +39,9 @@ returns-then-processors-m c =
     untouched (fill_short _ _ _ _ _ _ a.none short)
 
 turned :
-    (c : After-record_of) {r : Option Record} → c.record_of.result ≡ r →
+    (c : After-to_record) {r : Option Record} → c.to_record.result ≡ r →
     Turn c.args.table.now (left c.loop-found.found-iterator) (left c.next.new.self) c.loop-found.processors.written c.unwrap.result r
-turned c same = turn c.in-Some.ensures.steps c.unwrap.ensures c.enabled_at.ensures c.record_of.ensures same
+turned c same = turn c.in-Some.ensures.steps c.unwrap.ensures c.enabled_at.ensures c.to_record.ensures same
 
 pub loop-found-init : goal.loop-found-init
 loop-found-init c =
@@ -69,12 +69,12 @@ unwrap-requires c = sound_entry c.loop-found.invariant.faultless c.in-Some.ensur
 
 pub push-requires : goal.push-requires
 push-requires c =
-    let t = turned (goal.at.push-requires c).After-record_of (c.in-Some-Processor.is ∙ ap Some c.in-Some-Processor.field-0-is) in
+    let t = turned (goal.at.push-requires c).After-to_record (c.in-Some-Processor.is ∙ ap Some c.in-Some-Processor.field-0-is) in
     fill_room t processors refl (λ _. refl) (c.loop-found.invariant.filling processors)
 
 pub loop-found-preserved-in-Some-Processor : goal.loop-found-preserved-in-Some-Processor
 loop-found-preserved-in-Some-Processor c =
-    let t = turned (goal.at.loop-found-preserved-in-Some-Processor c).After-record_of (c.in-Some-Processor.is ∙ ap Some c.in-Some-Processor.field-0-is) in
+    let t = turned (goal.at.loop-found-preserved-in-Some-Processor c).After-to_record (c.in-Some-Processor.is ∙ ap Some c.in-Some-Processor.field-0-is) in
     let was = c.loop-found.invariant in
     let put = c.push.ensures in
     record {
@@ -89,12 +89,12 @@ loop-found-preserved-in-Some-Processor c =
 
 pub push-requires-in-Some-IoApic : goal.push-requires-in-Some-IoApic
 push-requires-in-Some-IoApic c =
-    let t = turned (goal.at.push-requires-in-Some-IoApic c).After-record_of (c.in-Some-IoApic.is ∙ ap Some c.in-Some-IoApic.field-0-is) in
+    let t = turned (goal.at.push-requires-in-Some-IoApic c).After-to_record (c.in-Some-IoApic.is ∙ ap Some c.in-Some-IoApic.field-0-is) in
     fill_room t io_apics refl (λ z. cc) (c.loop-found.invariant.filling io_apics)
 
 pub loop-found-preserved-in-Some-IoApic : goal.loop-found-preserved-in-Some-IoApic
 loop-found-preserved-in-Some-IoApic c =
-    let t = turned (goal.at.loop-found-preserved-in-Some-IoApic c).After-record_of (c.in-Some-IoApic.is ∙ ap Some c.in-Some-IoApic.field-0-is) in
+    let t = turned (goal.at.loop-found-preserved-in-Some-IoApic c).After-to_record (c.in-Some-IoApic.is ∙ ap Some c.in-Some-IoApic.field-0-is) in
     let was = c.loop-found.invariant in
     let put = c.push-in-Some-IoApic.ensures in
     record {
@@ -109,12 +109,12 @@ loop-found-preserved-in-Some-IoApic c =
 
 pub push-requires-in-Some-Override : goal.push-requires-in-Some-Override
 push-requires-in-Some-Override c =
-    let t = turned (goal.at.push-requires-in-Some-Override c).After-record_of (c.in-Some-Override.is ∙ ap Some c.in-Some-Override.field-0-is) in
+    let t = turned (goal.at.push-requires-in-Some-Override c).After-to_record (c.in-Some-Override.is ∙ ap Some c.in-Some-Override.field-0-is) in
     fill_room t interrupt_source_overrides refl (λ z. cc) (c.loop-found.invariant.filling interrupt_source_overrides)
 
 pub loop-found-preserved-in-Some-Override : goal.loop-found-preserved-in-Some-Override
 loop-found-preserved-in-Some-Override c =
-    let t = turned (goal.at.loop-found-preserved-in-Some-Override c).After-record_of (c.in-Some-Override.is ∙ ap Some c.in-Some-Override.field-0-is) in
+    let t = turned (goal.at.loop-found-preserved-in-Some-Override c).After-to_record (c.in-Some-Override.is ∙ ap Some c.in-Some-Override.field-0-is) in
     let was = c.loop-found.invariant in
     let put = c.push-in-Some-Override.ensures in
     record {
@@ -129,12 +129,12 @@ loop-found-preserved-in-Some-Override c =
 
 pub push-requires-in-Some-NmiSource : goal.push-requires-in-Some-NmiSource
 push-requires-in-Some-NmiSource c =
-    let t = turned (goal.at.push-requires-in-Some-NmiSource c).After-record_of (c.in-Some-NmiSource.is ∙ ap Some c.in-Some-NmiSource.field-0-is) in
+    let t = turned (goal.at.push-requires-in-Some-NmiSource c).After-to_record (c.in-Some-NmiSource.is ∙ ap Some c.in-Some-NmiSource.field-0-is) in
     fill_room t nmi_sources refl (λ z. cc) (c.loop-found.invariant.filling nmi_sources)
 
 pub loop-found-preserved-in-Some-NmiSource : goal.loop-found-preserved-in-Some-NmiSource
 loop-found-preserved-in-Some-NmiSource c =
-    let t = turned (goal.at.loop-found-preserved-in-Some-NmiSource c).After-record_of (c.in-Some-NmiSource.is ∙ ap Some c.in-Some-NmiSource.field-0-is) in
+    let t = turned (goal.at.loop-found-preserved-in-Some-NmiSource c).After-to_record (c.in-Some-NmiSource.is ∙ ap Some c.in-Some-NmiSource.field-0-is) in
     let was = c.loop-found.invariant in
     let put = c.push-in-Some-NmiSource.ensures in
     record {
@@ -149,12 +149,12 @@ loop-found-preserved-in-Some-NmiSource c =
 
 pub push-requires-in-Some-NmiLine : goal.push-requires-in-Some-NmiLine
 push-requires-in-Some-NmiLine c =
-    let t = turned (goal.at.push-requires-in-Some-NmiLine c).After-record_of (c.in-Some-NmiLine.is ∙ ap Some c.in-Some-NmiLine.field-0-is) in
+    let t = turned (goal.at.push-requires-in-Some-NmiLine c).After-to_record (c.in-Some-NmiLine.is ∙ ap Some c.in-Some-NmiLine.field-0-is) in
     fill_room t local_apic_nmi_lines refl (λ z. cc) (c.loop-found.invariant.filling local_apic_nmi_lines)
 
 pub loop-found-preserved-in-Some-NmiLine : goal.loop-found-preserved-in-Some-NmiLine
 loop-found-preserved-in-Some-NmiLine c =
-    let t = turned (goal.at.loop-found-preserved-in-Some-NmiLine c).After-record_of (c.in-Some-NmiLine.is ∙ ap Some c.in-Some-NmiLine.field-0-is) in
+    let t = turned (goal.at.loop-found-preserved-in-Some-NmiLine c).After-to_record (c.in-Some-NmiLine.is ∙ ap Some c.in-Some-NmiLine.field-0-is) in
     let was = c.loop-found.invariant in
     let put = c.push-in-Some-NmiLine.ensures in
     record {
@@ -169,7 +169,7 @@ loop-found-preserved-in-Some-NmiLine c =
 
 pub loop-found-preserved : goal.loop-found-preserved
 loop-found-preserved c =
-    let t = turned (goal.at.loop-found-preserved c).After-record_of c.in-None-record_of.is in
+    let t = turned (goal.at.loop-found-preserved c).After-to_record c.in-None-to_record.is in
     let was = c.loop-found.invariant in
     record {
       standing = standing_rest was.standing c.in-Some.ensures.steps;
