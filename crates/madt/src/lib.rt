@@ -77,14 +77,11 @@ pub struct Madt {
     pub supports_8259: bool,
 }
 
-#[tactic(auto, unfolding(crate::specs::Fixed::madt_checked, crate::specs::Fixed::not_madt, field::specs::First::when, field::specs::First::less, field::specs::First::differ))]
+#[tactic(auto, unfolding(crate::specs::Fixed::madt_checked, crate::specs::Fixed::not_madt, sdt::specs::Valid::whole_checked, field::specs::First::checked, field::specs::First::when))]
 fn check_madt(table: &[u8]) -> Result<(), Refusal>
     ensures { result ≡ madt_checked table.now }
 {
-    if table.len() < 44 || field::u32_at(table, 4) as usize != table.len() {
-        return Err(Refusal::TooShort);
-    }
-    Ok(())
+    sdt::check_whole(table, 44)
 }
 
 #[tactic(auto, using(crate::proofs::FixedLaws::has_fixed_part), unfolding(crate::specs::Fixed::fixed_of, crate::specs::Fixed::madt_of))]
