@@ -26,10 +26,6 @@ pub summed_first : (v : List ℕ) → revision_of v ≡ 0 → summed_of v ≡ 20
 unfolding summed_of
 summed_first v e = when_pass _ _ _ (differ_no (revision_of v) 0 e)
 
-pub summed_later : (v : List ℕ) → (revision_of v ≡ 0 → ⊥) → summed_of v ≡ number v 20 4
-unfolding summed_of
-summed_later v h = when_hit _ _ _ (differ_yes (revision_of v) 0 h)
-
 -- At least 20 bytes are needed.
 pub needed_least : (v : List ℕ) → 20 ≤ needed_of v
 unfolding needed_of when

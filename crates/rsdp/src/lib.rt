@@ -29,7 +29,8 @@ const PLACES_IN_AN_AREA: u64 = 8191;
 
 const PLACES_IN_A_KILOBYTE: u64 = 63;
 
-// What a valid root pointer says. The length is 20 where the revision is 0, and there is no XSDT then.
+// What a valid root pointer says. Where the revision is 0 the length is 20 and there is no XSDT; its address is 0 then and no Option,
+// as `pointer_of` and callers in other languages have it.
 #[derive(Clone, Copy)]
 pub struct Rsdp {
     pub revision: u8,
@@ -154,7 +155,8 @@ pub fn root_pointer(view: &[u8]) -> Result<Rsdp, Refusal>
     Ok(structure.says())
 }
 
-// The root pointer at a physical address.
+// The root pointer at a physical address. The slice and its list come apart, as callers lend them, and each question tests the
+// list; so does the search below (docs/DECISIONS.md, 6).
 pub fn root_pointer_at(image: &[u8], ranges: &[u64], address: u64) -> Result<Rsdp, Refusal>
     ensures { result ≡ root_pointer_at image.now ranges.now address }
 {
@@ -225,7 +227,8 @@ fn search_area(memory: Memory, area: Area) -> Option<u64>
     None
 }
 
-// The segment that the BIOS says its extended data area has, 0 where it isn't mapped.
+// The segment that the BIOS says its extended data area has. It is 0 where it isn't mapped, which is out of bounds like any other:
+// `segment_of` has it so, and an Option would have one arm for both.
 fn segment(memory: Memory) -> u16
     ensures { result ≡ segment_of (view_of memory.entry.image.now memory.entry.ranges.now 0x40e) }
 {
@@ -255,7 +258,8 @@ fn second_area(segment: u16) -> Area
     }
 }
 
-// The search for the root pointer where a BIOS leaves it.
+// The search for the root pointer where a BIOS leaves it. A `match` and no `or_else`: that was tried, and the prover knows nothing of
+// what a closure that captures the memory returned.
 pub fn search_for_on_bios(image: &[u8], ranges: &[u64]) -> Result<u64, Refusal>
     ensures { result ≡ search_asked image.now ranges.now }
 {

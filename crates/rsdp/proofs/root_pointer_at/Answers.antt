@@ -1,6 +1,5 @@
 -- `root_pointer_at` meets its contract: a wrong list is refused, else the view at the address decides.
-use Rattle.std.proofs.Common.{ap, sym, ◌∙◌, List, ℕ}
-use Rattle.std.proofs.lemmas.Result.{err_from_is_err_and}
+use Rattle.std.proofs.Common.{rules, ap, sym, ◌∙◌, List, ℕ}
 use Rattle.memory.specs.Places.{view_of}
 use Rattle.memory.proofs.AskedLaws.{asked_lent, asked_wrong}
 use Rattle.rsdp.specs.Pointer.{root_pointer_of}
@@ -10,9 +9,8 @@ use Rattle.rsdp.proofs.root_pointer_at.Goals as goal
 pub returns-in_err-new : goal.returns-in_err-new
 unfolding root_pointer_at
 returns-in_err-new c =
-    let p = err_from_is_err_and c.from_residual.result c.from_residual.ensures.1 in
     let wrong = c.in_err-new.ensures.wrong in
-    rw (p.1, p.2, wrong.0) (sym (asked_wrong _ _ _ wrong.1))
+    search (rules, asked_wrong)
 
 pub returns : goal.returns
 unfolding root_pointer_at

@@ -1,8 +1,7 @@
 -- `search_for_on_bios` meets its contract: the first area decides where it has a valid root pointer, else the second.
-use Rattle.std.proofs.Common.{ap, sym, ◌∙◌, ℕ, List}
+use Rattle.std.proofs.Common.{rules, ap, sym, ◌∙◌, ℕ, List}
 use Rattle.std.specs.Prelude.{Option}
 use Rattle.std.specs.Option.{ok_or}
-use Rattle.std.proofs.lemmas.Result.{err_from_is_err_and}
 use Rattle.refusal.specs.declared.Refusal.TheVariants.{PointerNotFound}
 use Rattle.field.specs.Choice.{nth_valid}
 use Rattle.memory.proofs.AskedLaws.{asked_lent, asked_wrong}
@@ -14,9 +13,8 @@ use Rattle.rsdp.proofs.search_for_on_bios.Goals as goal
 pub returns-in_err-memory : goal.returns-in_err-memory
 unfolding search_asked
 returns-in_err-memory c =
-    let p = err_from_is_err_and c.from_residual.result c.from_residual.ensures.1 in
     let wrong = c.in_err-memory.ensures.wrong in
-    rw (p.1, p.2, wrong.0) (sym (asked_wrong _ _ _ wrong.1))
+    search (rules, asked_wrong)
 
 pub returns-in-Some : goal.returns-in-Some
 unfolding search_asked
