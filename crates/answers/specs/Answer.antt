@@ -1,5 +1,5 @@
 -- How an answer reaches a caller in another language: its number is the result, its values go to a lent buffer, and a
--- refusal writes nothing. A buffer that is too short for the values is refused with 17.
+-- refusal writes nothing. A buffer that is too short for the values is refused with BufferTooShort.
 use Rattle.std.specs.Prelude.{ℕ, ◌≡◌, List, ◌++◌, length, drop, Result, Ok, Err}
 use Rattle.field.specs.First.{less, when}
 use Rattle.refusal.specs.Number.{number_of as refusal_number}

@@ -12,7 +12,7 @@ pub struct Aml {
     pub length: u64,
 }
 
-// What follows the header of a table; or 13 where its address would be 2 ^ 64.
+// What follows the header of a table; or `NotThere` where its address would be 2 ^ 64.
 #[tactic(auto, unfolding(crate::specs::Aml::aml_of, field::specs::First::less, field::specs::First::when))]
 pub fn behind_the_header(table: Table) -> Result<Aml, Refusal>
     ensures { result ≡ aml_of table }

@@ -16,7 +16,6 @@ impl Values for PowerProfile {
     }
 }
 
-// By `as`, which is proved to lose nothing: nineteen calls of `u64::from` are more than one proof follows.
 impl Values for Fixed {
     ghost values = { fixed_values };
 

@@ -13,7 +13,8 @@ mod fixed;
 mod found;
 mod interrupts;
 
-// What has words for a caller in another language.
+// What has words for a caller in another language. Words are widened by `as`, which is proved to lose nothing: a usize has no From
+// into u64, and nineteen calls of `u64::from` are more than one proof follows.
 pub trait Values {
     // The words, in order.
     ghost values: { Self → List ℕ };
@@ -23,7 +24,7 @@ pub trait Values {
         ensures { Put (Ok (values self)) result out.old out.new };
 }
 
-// The words at the buffer's front; or the refusal of a buffer that is too short, which stays as it was.
+// Words at the buffer's front; or the refusal of a buffer that is too short, which stays as it was. Each `put` ends in this one.
 #[tactic(auto, unfolding(crate::specs::Answer::outcome_of, crate::specs::Answer::buffer_after, field::specs::First::less, field::specs::First::when))]
 pub fn put(out: &mut [u64], words: &[u64]) -> Result<(), Refusal>
     ensures { Put (Ok words.now) result out.old out.new }

@@ -23,10 +23,11 @@ const RSDT: u32 = 0x5444_5352;
 
 const XSDT: u32 = 0x5444_5358;
 
+// The numbers are those that callers in other languages are told.
 #[derive(Clone, Copy)]
 pub enum RootKind {
-    Rsdt,
-    Xsdt,
+    Rsdt = 0,
+    Xsdt = 1,
 }
 
 #[tactic(auto, unfolding(crate::specs::Root::kind_of, crate::specs::Root::address_of, crate::specs::Root::signature_of, crate::specs::Root::size_of, field::specs::First::when, field::specs::First::differ))]
@@ -90,7 +91,8 @@ impl RootKind {
     }
 }
 
-// A valid root table: where it stands in memory and in the slice, and what it lists.
+// A valid root table: where it stands in memory and in the slice, and what it lists. Numbers and no slice, as in `Table`: they are
+// what callers in other languages are told, and the theorems speak of them.
 #[derive(Clone, Copy)]
 pub struct RootTable {
     pub kind: RootKind,
@@ -109,7 +111,8 @@ pub struct Table {
     pub len: usize,
 }
 
-// The offset of an address in the slice.
+// The offset of an address in the slice. It is 0 where no range holds the address, as the definition `offset_of` says; of a valid
+// table one does.
 #[tactic(auto, unfolding(crate::specs::Root::offset_of))]
 fn offset_of(memory: Memory, p: u64) -> usize
     ensures { result ≡ offset_of (place_of (ranges_of memory.entry.ranges.now) p) }
@@ -194,6 +197,9 @@ fn nth_listed(memory: Memory, entries: Entries, wanted: Wanted, least: u32, n: u
         .nth(n as usize)
 }
 
+// The questions from outside. The slice and its list come apart in each, as callers lend them, and each tests the list
+// (docs/DECISIONS.md, 6).
+
 // The root table, from the address of the root pointer.
 pub fn root_table(image: &[u8], ranges: &[u64], rsdp: u64) -> Result<RootTable, Refusal>
     ensures { result ≡ root_of image.now ranges.now rsdp }
@@ -260,7 +266,7 @@ pub fn header(image: &[u8], ranges: &[u64], rsdp: u64, n: u64) -> Result<Table, 
     nth_table(image, ranges, rsdp, Wanted::Any, sdt::HEADER_SIZE as u32, n)
 }
 
-// All bytes of the table at an address whose header is mapped, or as many of them as are.
+// As `whole_in`, of a slice and a right list of its ranges. This public form keeps its two demands and no refusal.
 pub fn whole<'a>(image: &'a [u8], ranges: &[u64], address: u64) -> &'a [u8]
     requires right_ranges { right (length image.now) ranges.now ≡ true }
     requires mapped_header { header_size ≤ length (view_of image.now ranges.now address) }

@@ -5,7 +5,8 @@ ghost use Rattle.tables.specs.Root.{entries_in};
 
 use crate::RootKind;
 
-// The bytes behind the header of a root table, an address after the other. A cut-off rest is no address.
+// The bytes behind the header of a root table, an address after the other. A cut-off rest is no address. It is an iterator of its
+// own: the library's chunks with a closure over the kind would have no name as a result.
 #[derive(Drop)]
 pub struct Entries<'a> {
     pub kind: RootKind,
