@@ -21,7 +21,7 @@ register_of t which =
 unfoldable pub profile_of : List ℕ → Result ℕ Refusal
 profile_of t = and_then (power_profile t) (λ profile. Ok (profile_number profile))
 
--- a number that names nothing: 13, and 11 of a slice that is no FADT
+-- a number that names nothing: NotThere, and TooShort of a slice that is no FADT
 unfoldable pub no_number : List ℕ → Result ℕ Refusal
 no_number t = and_then (power_profile t) (λ profile. Err NotThere)
 

@@ -33,7 +33,8 @@ pub const APIC: u32 = 0x43495041;
 
 const DSDT: u32 = 0x54445344;
 
-// The bytes of the first valid table that has a signature and at least so many bytes.
+// The bytes of the first valid table that has a signature and at least so many bytes. Its parameters are those of the questions from
+// outside.
 pub fn first_table<'a>(
     image: &'a [u8],
     ranges: &[u64],

@@ -44,10 +44,10 @@ fn interrupt_model(image: &[u8], ranges: &[u64], rsdp: u64) -> Result<Model, Ref
 fn is_wide(fadt: &[u8]) -> bool
     ensures { result ≡ wide_timer (fixed_fields fadt.now) }
 {
-    match fadt::fixed_fields(fadt) {
-        Ok(fixed) => fadt::flag(u64::from(fixed.flags), fadt::PM_TIMER_IS_32_BIT),
-        Err(_) => false,
-    }
+    fadt::fixed_fields(fadt).is_ok_and(|fixed| fadt::flag(
+        u64::from(fixed.flags),
+        fadt::PM_TIMER_IS_32_BIT,
+    ))
 }
 
 // The timer, if the machine has one.
@@ -101,6 +101,8 @@ fn timer_words(timer: Option<PmTimer>) -> [u64; 7]
     }
 }
 
+// The words of the model and of the address are spelled again: arrays of two lengths can't be joined without a computed length or
+// a heap.
 impl Values for PlatformInfo {
     ghost values = { platform_values };
 

@@ -67,7 +67,7 @@ pub extern "C" fn tablewalk_table_fadt_fixed(table: &[u8], out: &mut [u64]) -> u
     report(fadt::fixed_fields(table), out)
 }
 
-// A register of the FADT by its number: space, bit width, bit offset, access size, address.
+// A register of the FADT by its number, which is the caller's: space, bit width, bit offset, access size, address.
 #[unsafe(no_mangle)]
 pub extern "C" fn tablewalk_table_fadt_register(table: &[u8], which: u32, out: &mut [u64]) -> u32
     ensures { Reported (answer_of generic_values (register_of table.now which)) result out.old out.new }
@@ -75,7 +75,8 @@ pub extern "C" fn tablewalk_table_fadt_register(table: &[u8], which: u32, out: &
     report(fadt_register(table, which), out)
 }
 
-// A single number of the FADT: 0 FACS address, 1 DSDT address, 2 reset value, 3 ARM boot flags, 4 power profile.
+// A single number of the FADT by its number, which is the caller's: 0 FACS address, 1 DSDT address, 2 reset value, 3 ARM boot flags,
+// 4 power profile.
 #[unsafe(no_mangle)]
 pub extern "C" fn tablewalk_table_fadt_number(table: &[u8], which: u32, out: &mut [u64]) -> u32
     ensures { Reported (answer_of one_value (number_of table.now which)) result out.old out.new }
