@@ -7,7 +7,7 @@ ghost use Rattle.cases.specs.Values.{values_of};
 use crate::record::{Image, Question};
 use std::alloc::{AllocError, Global};
 
-// The stored answer: its number, 0 where it has values, and its values.
+// The stored answer as the file has it: its number, 0 where it has values, and its values.
 #[derive(Drop)]
 pub struct Stored {
     pub number: u32,
@@ -44,7 +44,7 @@ impl Stored {
 }
 
 // What a question is asked about: the bytes of an image with its patches, its ranges, the question's number and its arguments. And
-// the answer that is wanted.
+// the answer that is wanted. The number stays one: each program has questions of its own.
 #[derive(Drop)]
 pub struct Case {
     pub image: Vec<u8>,
@@ -68,7 +68,8 @@ fn numbers(alloc: Global, bytes: &[[u8; 8]]) -> Result<Vec<u64>, AllocError>
     bytes.iter().map(|b| u64::from_le_bytes(*b)).collect(alloc)
 }
 
-// Changes the byte that a patch names, by its offset and its value in four bytes each. None where the offset is outside.
+// Changes the byte that a patch names, by its offset and its value in four bytes each. None where the offset is outside. A test and
+// no `get_mut`: that was tried, and the library's `get_mut` says nothing of what the slice ends as.
 #[tactic(auto, unfolding(crate::specs::Case::offset_of))]
 fn patch(image: &mut [u8], patch: &[u8; 8]) -> Option<()>
     ensures patched { OnSome result (image.new ≡ with_patch image.old patch.now) }

@@ -5,7 +5,8 @@ ghost use Rattle.std.specs.Io.KnownBytes.{Consumes, IsAtEnd};
 use std::io;
 use std::io::Read;
 
-// Reads until the buffer is full or the file ends, and answers how many bytes of the file stand at the buffer's front.
+// Reads until the buffer is full or the file ends, and answers how many bytes of the file stand at the buffer's front. It is promised
+// of a lent buffer (docs/PROMISES.md), and a longer file is cut off there.
 pub fn read_full<F: Read>(file: &mut F, buffer: &mut [u8]) -> io::Result<usize>
     ensures bound { IfOk result (λ n. n ≤ length buffer.new) }
     ensures bytes { IfOk result (λ n. Consumes (F.remaining file.old) (F.remaining file.new) (take n buffer.new)) }

@@ -7,7 +7,7 @@ use sdt::Wanted;
 use std::alloc::{AllocError, Global};
 use tables::{RootTable, Table};
 
-// The largest image has an area of the search and the word at 40e.
+// The largest image has an area of the search and the word at 40e. A larger case is refused, as one with more ranges is.
 const IMAGE_ROOM: usize = 0x2_0004;
 
 // Room for 66 ranges, two more than a right list has.
@@ -50,10 +50,10 @@ fn ask(case: &Case) -> Option<Outcome> {
         (2, [address]) => {
             stored.outcome(rsdp::root_pointer_at(image, ranges, *address).map(of_pointer))
         }
-        (3, []) => stored.outcome(rsdp::search_for_on_bios(image, ranges).map(of_address)),
+        (3, []) => stored.outcome(rsdp::search_for_on_bios(image, ranges).map(|address| [address])),
         (4, [rsdp]) => stored.outcome(tables::root_table(image, ranges, *rsdp).map(of_root)),
         (5, [rsdp, k]) => {
-            stored.outcome(tables::root_entry(image, ranges, *rsdp, *k).map(of_address))
+            stored.outcome(tables::root_entry(image, ranges, *rsdp, *k).map(|address| [address]))
         }
         (6, [rsdp, signature, least]) => {
             let found = tables::find_table(image, ranges, *rsdp, low(*signature), low(*least));
@@ -79,7 +79,7 @@ fn ask(case: &Case) -> Option<Outcome> {
     Some(outcome)
 }
 
-// The values of the answers.
+// The values of the answers, spelled apart from `answers`, as in replay_tables, whose file has other words than callers are told.
 
 fn of_pointer(p: Rsdp) -> [u64; 4] {
     [
@@ -88,10 +88,6 @@ fn of_pointer(p: Rsdp) -> [u64; 4] {
         u64::from(p.rsdt_address),
         p.xsdt_address,
     ]
-}
-
-fn of_address(address: u64) -> [u64; 1] {
-    [address]
 }
 
 fn of_root(t: RootTable) -> [u64; 6] {

@@ -10,7 +10,7 @@ use platform::Model;
 use refusal::Refusal;
 use std::alloc::{AllocError, Global};
 
-// Room for a table of 4,096 processors.
+// Room for a table of 4,096 processors. A larger case is refused.
 const TABLE_ROOM: usize = 36864;
 
 pub struct TableQuestions;
@@ -52,7 +52,7 @@ fn ask(case: &Case) -> Option<Outcome> {
     let table = case.image.as_slice();
     let stored = &case.stored;
     let outcome = match (case.id, case.arguments.as_slice()) {
-        (20, []) => stored.outcome(mcfg::entry_count(table).map(of_length)),
+        (20, []) => stored.outcome(mcfg::entry_count(table).map(|count| [count as u64])),
         (21, [k]) => stored.outcome(mcfg::entry(table, *k as usize).map(of_window)),
         (22, [segment, bus, device, function]) => {
             let answer = mcfg::physical_address(
@@ -62,14 +62,14 @@ fn ask(case: &Case) -> Option<Outcome> {
                 low_byte(*device),
                 low_byte(*function),
             );
-            stored.outcome(answer.map(of_one))
+            stored.outcome(answer.map(|address| [address]))
         }
         (30, []) => stored.outcome(hpet::hpet_info(table).map(of_timer)),
         (40, [which]) => stored.outcome(register(table, *which).map(of_generic)),
-        (41, []) => stored.outcome(fadt::facs_address(table).map(of_one)),
-        (42, []) => stored.outcome(fadt::dsdt_address(table).map(of_one)),
+        (41, []) => stored.outcome(fadt::facs_address(table).map(|address| [address])),
+        (42, []) => stored.outcome(fadt::dsdt_address(table).map(|address| [address])),
         // The second argument, how many bytes the field has, follows from the first.
-        (43, [offset, _]) => stored.outcome(fadt_field(table, *offset).map(of_one)),
+        (43, [offset, _]) => stored.outcome(fadt_field(table, *offset).map(|value| [value])),
         (44, [offset, bit]) => {
             let word = fadt_field(table, *offset);
             stored.outcome(word.map(|word| [u64::from(fadt::flag(word, low(*bit)))]))
@@ -77,13 +77,14 @@ fn ask(case: &Case) -> Option<Outcome> {
         (50, []) => stored.outcome(madt::fixed_part(table).map(of_fixed)),
         (51, [k]) => stored.outcome(madt::entry(table, *k as usize).map(of_entry)),
         (52, []) => stored.outcome(platform::interrupt_model(table).map(of_model)),
-        (54, []) => stored.outcome(platform::mailbox_address(table).map(of_one)),
+        (54, []) => stored.outcome(platform::mailbox_address(table).map(|address| [address])),
         _ => return None,
     };
     Some(outcome)
 }
 
-// The register blocks have the numbers 0 to 7. 8 is the reset register, 9 sleep control and 10 sleep status.
+// A register by the number that the file has: the blocks are 0 to 7, 8 is the reset register, 9 sleep control and 10 sleep status.
+// `fadt_register` of tablewalk is in no library (docs/DECISIONS.md, 21).
 fn register(table: &[u8], which: u64) -> Result<GenericAddress, Refusal> {
     match which {
         8 => fadt::reset_register(table),
@@ -93,7 +94,7 @@ fn register(table: &[u8], which: u64) -> Result<GenericAddress, Refusal> {
     }
 }
 
-// A plain field by the offset at which the specification has it.
+// A plain field by the offset that the file has, at which it stands in the table.
 fn fadt_field(table: &[u8], offset: u64) -> Result<u64, Refusal> {
     match offset {
         45 => fadt::power_profile(table).map(|profile| u64::from(u8::from(profile))),
@@ -136,15 +137,7 @@ fn low_byte(x: u64) -> u8 {
     (x % 0x100) as u8
 }
 
-// The values of the answers.
-
-fn of_one(x: u64) -> [u64; 1] {
-    [x]
-}
-
-fn of_length(n: usize) -> [u64; 1] {
-    [n as u64]
-}
+// The values of the answers, spelled apart from `answers`: the file has fewer words of an HPET, and zeros for an unknown model.
 
 fn of_window(e: McfgEntry) -> [u64; 4] {
     [

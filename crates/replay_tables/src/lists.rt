@@ -5,7 +5,7 @@ use std::alloc::{AllocError, Global};
 // What stands in a lent table before it is filled. No record of a stored case has this word.
 const UNTOUCHED: u32 = 0xa5a5_a5a5;
 
-// Room for the records of 4,096 processors.
+// Room for the records of 4,096 processors. A case with longer tables is refused.
 const ROOM: u64 = 12304;
 
 #[derive(Drop)]
