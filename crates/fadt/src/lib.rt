@@ -18,7 +18,7 @@ mod table;
 
 use table::Fadt;
 
-// Which form of an address counts.
+// Which form of an address counts. The two callers read different things at a form, so each matches on it.
 #[derive(Clone, Copy)]
 enum Form {
     Wide,
@@ -29,24 +29,24 @@ impl Fadt<'_> {
     // The form that counts of an address whose wide form stands at `at`. The table holds that form if it counts.
     #[tactic(auto, using(crate::proofs::RoomLaws::tests), unfolding(crate::specs::Forms::form_of))]
     fn form_of(self, at: usize) -> Result<Form, Refusal>
-        requires { at < 1024 }
         ensures is { result ≡ form_of self.entry.bytes.now at }
         ensures room { IfOk result (λ form. form ≡ Form.Wide → at + 8 ≤ length self.entry.bytes.now) }
     {
         if self.is_early() {
             return Ok(Form::Narrow);
         }
-        self.holds(at + 8)?;
+        self.holds(at, 8)?;
         if field::u64_at(self.bytes, at) == 0 {
             return Ok(Form::Narrow);
         }
         Ok(Form::Wide)
     }
 
-    // An address that has a narrow and a wide form, by the form that counts.
+    // An address that has a narrow and a wide form, by the form that counts. The narrow one stands in the fixed part, which this and
+    // `narrow_block` alone demand: a type for such offsets would be built at each call.
     #[tactic(auto, unfolding(crate::specs::Values::formed))]
     fn formed(self, narrow: usize, wide: usize) -> Result<u64, Refusal>
-        requires { (narrow ≤ 112) × (wide < 1024) }
+        requires { narrow ≤ 112 }
         ensures { result ≡ formed self.entry.bytes.now narrow wide }
     {
         match self.form_of(wide)? {
@@ -67,7 +67,7 @@ fn nonzero(address: u64) -> Result<u64, Refusal>
     Ok(address)
 }
 
-// The physical address of the FACS.
+// The physical address of the FACS. It and `dsdt_address` are both public, so they stay two functions: what they share is `formed`.
 #[tactic(auto, using(crate::proofs::RoomLaws::tests), unfolding(crate::specs::Values::formed, crate::specs::Forms::form_of))]
 pub fn facs_address(table: &[u8]) -> Result<u64, Refusal>
     ensures { result ≡ facs_address table.now }
@@ -83,13 +83,14 @@ pub fn dsdt_address(table: &[u8]) -> Result<u64, Refusal>
     Fadt::new(table)?.formed(40, 140)
 }
 
-// The value that resets the machine when it is written to the reset register.
+// The value that resets the machine when it is written to the reset register. It reads as `arm_boot_arch` does, but a byte and not
+// two: each width has its reader, and a function for both would take the offset, the size and the reader.
 #[tactic(auto, using(crate::proofs::RoomLaws::tests), unfolding(crate::specs::Values::number_at))]
 pub fn reset_value(table: &[u8]) -> Result<u64, Refusal>
     ensures { result ≡ reset_value table.now }
 {
     let fadt = Fadt::new(table)?;
-    fadt.holds(129)?;
+    fadt.holds(128, 1)?;
     Ok(field::u8_at(fadt.bytes, 128) as u64)
 }
 
@@ -99,7 +100,7 @@ pub fn arm_boot_arch(table: &[u8]) -> Result<u64, Refusal>
     ensures { result ≡ arm_boot_arch table.now }
 {
     let fadt = Fadt::new(table)?;
-    fadt.holds(131)?;
+    fadt.holds(129, 2)?;
     Ok(field::u16_at(fadt.bytes, 129) as u64)
 }
 
@@ -139,7 +140,8 @@ impl TryFrom<u32> for RegisterBlock {
 }
 
 // How a register block is described: where its narrow address, its length byte and its wide form stand, whether it
-// answers though its address is zero, and whether it is there only with a length byte of 4.
+// answers though its address is zero, and whether it is there only with a length byte of 4. The two rules are bools, as the
+// definition `place_of` has them, since each holds of some blocks and neither goes with the other.
 #[derive(Clone, Copy)]
 struct Place {
     narrow: usize,
@@ -254,7 +256,8 @@ impl Fadt<'_> {
     }
 }
 
-// Where the register block of a number lies. The numbers are 0 to 7.
+// Where the register block of a number lies. The numbers are 0 to 7. They are what callers in other languages have, and this public
+// function tests the slice before the number, so that a slice that is no table is refused as such.
 #[tactic(auto, using(crate::proofs::RoomLaws::tests), unfolding(crate::specs::Blocks::nth_register_block))]
 pub fn nth_register_block(table: &[u8], n: u32) -> Result<GenericAddress, Refusal>
     ensures { result ≡ nth_register_block table.now n }
@@ -275,17 +278,15 @@ impl Fadt<'_> {
     // The register at an offset, where the table holds it.
     #[tactic(auto, using(crate::proofs::RoomLaws::tests), unfolding(crate::specs::Registers::register_at))]
     fn register_at(self, at: usize) -> Result<GenericAddress, Refusal>
-        requires { at < 1024 }
         ensures { result ≡ register_at self.entry.bytes.now at }
     {
-        self.holds(at + 12)?;
+        self.holds(at, 12)?;
         address::generic_address(self.bytes, at)
     }
 
     // A sleep register, which a table of revision 0 or 1 does not have.
     #[tactic(auto, using(crate::proofs::RoomLaws::tests), unfolding(crate::specs::Registers::sleep_register))]
     fn sleep_register(self, at: usize) -> Result<GenericAddress, Refusal>
-        requires { at < 1024 }
         ensures { result ≡ sleep_register self.entry.bytes.now at }
     {
         if self.is_early() {
@@ -303,7 +304,8 @@ pub fn reset_register(table: &[u8]) -> Result<GenericAddress, Refusal>
     Fadt::new(table)?.register_at(116)
 }
 
-// The register that puts the machine to sleep.
+// The register that puts the machine to sleep. It and `sleep_status_register` are both public, so they stay two functions: what
+// they share is `sleep_register`.
 #[tactic(auto, using(crate::proofs::RoomLaws::tests), unfolding(crate::specs::Registers::sleep_register))]
 pub fn sleep_control_register(table: &[u8]) -> Result<GenericAddress, Refusal>
     ensures { result ≡ sleep_control_register table.now }

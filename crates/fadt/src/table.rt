@@ -1,5 +1,5 @@
 // A slice that was found to be a table, so that no question about it asks that again.
-ghost use Rattle.std.specs.Prelude.{◌≡◌, true, ◌≤◌, ◌<◌, length, IfOk, IfErr};
+ghost use Rattle.std.specs.Prelude.{◌≡◌, true, ◌+◌, ◌≤◌, ◌<◌, length, IfOk, IfErr};
 ghost use Rattle.field.specs.Number.{number};
 ghost use Rattle.fadt.specs.Room.{lacks, early};
 
@@ -25,15 +25,15 @@ impl<'a> Fadt<'a> {
         Ok(Fadt { bytes: table })
     }
 
-    // The table holds the bytes up to `end`, or is too short.
-    pub fn holds(self, end: usize) -> Result<(), Refusal>
-        ensures room { IfOk result (λ _. end ≤ length self.entry.bytes.now) }
-        ensures short { IfErr result (λ refusal. (refusal ≡ Refusal.TooShort) × (length self.entry.bytes.now < end)) }
+    // The table holds so many bytes from an offset on, or is too short. An end that is no usize lies behind every table.
+    pub fn holds(self, at: usize, size: usize) -> Result<(), Refusal>
+        ensures room { IfOk result (λ _. at + size ≤ length self.entry.bytes.now) }
+        ensures short { IfErr result (λ refusal. (refusal ≡ Refusal.TooShort) × (length self.entry.bytes.now < at + size)) }
     {
-        if self.bytes.len() < end {
-            return Err(Refusal::TooShort);
+        match at.checked_add(size) {
+            Some(end) if end <= self.bytes.len() => Ok(()),
+            _ => Err(Refusal::TooShort),
         }
-        Ok(())
     }
 
     // Whether the revision is below 2.

@@ -30,7 +30,7 @@ protection_number Protected64K = 2
 protection_number Other = 3
 
 -- The fields: Event Timer Block ID at 36, the base address' Address at 44 (its structure begins at 40), HPET Number at 52, Main
--- Counter Minimum clock_tick at 53, Page Protection And OEM Attribute at 55. The block id holds the number of comparators less one.
+-- Counter Minimum Clock_tick at 53, Page Protection And OEM Attribute at 55. The block id holds the number of comparators less one.
 unfoldable pub info_of : List ℕ → HpetInfo
 info_of table =
     let id = number table 36 4 in

@@ -41,7 +41,7 @@ impl From<PageProtection> for u8 {
     }
 }
 
-// The names are those of the Rust crate, where some of these are methods that take the block id apart.
+// The names are those of the Rust crate, where some of these are methods that take the block id apart. The bools are bits of it.
 #[derive(Clone, Copy)]
 pub struct HpetInfo {
     pub event_timer_block_id: u32,
