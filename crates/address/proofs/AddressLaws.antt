@@ -1,7 +1,6 @@
 -- Laws about generic addresses, their spaces and their access sizes.
-use Rattle.std.proofs.Common.{ℕ, zero, suc, ◌+◌, ◌<◌, ◌≡◌, refl, sym, ◌∙◌, List, [], ◌∷◌, map, Bool, true, false, add-suc, suc-add, zero-add, le_of_suc-le-suc, not-suc-le-zero, arith, length, get_or}
-use Rattle.field.specs.First.{when}
-use Rattle.field.proofs.FirstLaws.{less_true, less_false, err_not_ok}
+use Rattle.std.proofs.Common.{ℕ, zero, suc, ◌+◌, ◌<◌, ◌≡◌, refl, sym, ◌∙◌, List, [], ◌∷◌, map, add-suc, suc-add, zero-add, le_of_suc-le-suc, not-suc-le-zero, arith, length, get_or}
+use Rattle.field.proofs.FirstLaws.{less_true, less_false, err_not_ok, when_cases}
 use Rattle.address.specs.Space.{spaces, space_number, space_of, SpaceHasItsNumber}
 use Rattle.address.specs.Size.{sizes, size_number, size_of, SizeHasItsNumber}
 use Rattle.address.specs.declared.AddressSpace.TheVariants.{SystemMemory}
@@ -23,17 +22,6 @@ in_order number_of d (name ∷ names) i zero e h = let e₀ : number_of name ≡
 in_order number_of d (name ∷ names) i (suc k) e h =
     let e₀ : map number_of names ≡ numbers (suc i) (length names) = cc in
     in_order number_of d names (suc i) k e₀ (le_of_suc-le-suc h) ∙ suc-add i k ∙ sym (add-suc i k)
-
--- What a choice gives it gives by its first case or by the rest.
-when_cases :
-    {A C : Type 0} (t : Bool) (x rest : A) {y : A} →
-    when t x rest ≡ y →
-    (t ≡ true → x ≡ y → C) →
-    (t ≡ false → rest ≡ y → C) →
-    C
-unfolding when
-when_cases true x rest e first others = first refl e
-when_cases false x rest e first others = others refl e
 
 -- By the rows of the table: the list is in the order of its numbers, 0x7f is the one number from 0x7f on below 0x80, and the
 -- maker's own number is kept.

@@ -46,7 +46,7 @@ pub struct GenericAddress {
     pub address: u64,
 }
 
-// The number of an address space, as a table has it.
+// The number of an address space, as a table has it. It is a match, since the maker's own spaces carry theirs.
 impl From<AddressSpace> for u8 {
     ghost from_gives = { λ space n. n ≡ space_number space };
 
@@ -124,7 +124,8 @@ impl TryFrom<u8> for AccessSize {
     }
 }
 
-// The generic address at an offset. It is refused where its space or its access size is unknown.
+// The generic address at an offset. It is refused where its space or its access size is unknown. The slice and the offset come apart,
+// since callers have a table and a place in its layout.
 #[tactic(auto, unfolding(crate::specs::Generic::generic_address_at))]
 pub fn generic_address(bytes: &[u8], at: usize) -> Result<GenericAddress, Refusal>
     requires { at + 12 ≤ length bytes.now }

@@ -14,14 +14,12 @@ pub struct Fadt<'a> {
 }
 
 impl<'a> Fadt<'a> {
-    #[tactic(auto, unfolding(crate::specs::Room::lacks, field::specs::First::less, field::specs::First::differ))]
+    #[tactic(auto, unfolding(crate::specs::Room::lacks, sdt::specs::Valid::whole_checked, field::specs::First::checked, field::specs::First::less, field::specs::First::differ, field::specs::First::when))]
     pub fn new(table: &'a [u8]) -> Result<Fadt<'a>, Refusal>
         ensures lent { IfOk result (λ fadt. fadt.bytes.now ≡ table.now) }
         ensures no_table { IfErr result (λ refusal. (refusal ≡ Refusal.TooShort) × (lacks table.now 116 ≡ true)) }
     {
-        if table.len() < 116 || field::u32_at(table, 4) as usize != table.len() {
-            return Err(Refusal::TooShort);
-        }
+        sdt::check_whole(table, 116)?;
         Ok(Fadt { bytes: table })
     }
 

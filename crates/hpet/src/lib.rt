@@ -41,7 +41,8 @@ impl From<PageProtection> for u8 {
     }
 }
 
-// The names are those of the Rust crate, where some of these are methods that take the block id apart. The bools are bits of it.
+// The names are those of the Rust crate, where some of these are methods that take the block id apart. The bools
+// are bits of it.
 #[derive(Clone, Copy)]
 pub struct HpetInfo {
     pub event_timer_block_id: u32,
@@ -78,13 +79,11 @@ fn info(table: &[u8]) -> HpetInfo
 }
 
 // What an HPET table says, or why it is refused.
-#[tactic(auto, unfolding(crate::specs::Hpet::hpet_of, field::specs::First::checked, field::specs::First::less, field::specs::First::differ, field::specs::First::when))]
+#[tactic(auto, unfolding(crate::specs::Hpet::hpet_of, sdt::specs::Valid::whole_checked, field::specs::First::checked, field::specs::First::less, field::specs::First::differ, field::specs::First::when))]
 pub fn hpet_info(table: &[u8]) -> Result<HpetInfo, Refusal>
     ensures { result ≡ hpet_of table.now }
 {
-    if table.len() < 56 || field::u32_at(table, 4) as usize != table.len() {
-        return Err(Refusal::TooShort);
-    }
+    sdt::check_whole(table, 56)?;
     if field::u8_at(table, 40) != u8::from(AddressSpace::SystemMemory) {
         return Err(Refusal::UnknownSpaceOrSize);
     }
