@@ -1,5 +1,6 @@
 // The words of what a FADT says.
-ghost use Rattle.std.specs.Prelude.{ℕ, List, Ok};
+ghost use Rattle.std.specs.Prelude.{◌≡◌, ℕ, List, Ok};
+ghost use Rattle.fadt.specs.Profiles.{profile_number};
 ghost use Rattle.answers.specs.Answer.{Put};
 ghost use Rattle.answers.specs.Words.{profile_values, fixed_values, generic_values};
 
@@ -8,11 +9,18 @@ use address::GenericAddress;
 use fadt::{Fixed, PowerProfile};
 use refusal::Refusal;
 
+// The number that stands for the profile, in every answer that has it.
+pub fn profile_number(profile: PowerProfile) -> u64
+    ensures { result ≡ profile_number profile }
+{
+    u8::from(profile) as u64
+}
+
 impl Values for PowerProfile {
     ghost values = { profile_values };
 
     fn put(self, out: &mut [u64]) -> Result<(), Refusal> {
-        put(out, &[u8::from(self) as u64])
+        put(out, &[profile_number(self)])
     }
 }
 

@@ -9,7 +9,7 @@ use refusal::Refusal;
 
 pub mod aml;
 mod devices;
-mod fixed;
+pub mod fixed;
 mod found;
 mod interrupts;
 

@@ -1,17 +1,18 @@
 // A question of a stored file as a program is asked it, and how an answer stands to the stored one.
-ghost use Rattle.std.specs.Prelude.{◌≡◌, ◌↔◌, ◌<◌, ◌%◌, ◌^◌, All, IfOk, IfSome, IsSome, IsTrue, MatchResult, OnSome, length, map, fold};
+ghost use Rattle.std.specs.Prelude.{◌≡◌, ◌↔◌, ◌<◌, ◌%◌, ◌^◌, All, IfOk, IfSome, IsSome, IsTrue, MatchResult, OnOk, OnSome, length, map, fold};
 ghost use Rattle.std.specs.Int.{from_le_bytes, w64};
 ghost use Rattle.cases.specs.Case.{IsOf, offset_of, with_patch};
 ghost use Rattle.cases.specs.Values.{values_of};
 
 use crate::record::{Image, Question};
-use std::alloc::{AllocError, Global};
+use std::alloc::AllocError;
 
-// The stored answer as the file has it: its number, 0 where it has values, and its values.
-#[derive(Drop)]
-pub struct Stored {
+// The stored answer as the file has it: its number, 0 where it has values, and its values. They stay in the file, eight bytes each,
+// since most are only compared.
+#[derive(Clone, Copy)]
+pub struct Stored<'a> {
     pub number: u32,
-    pub values: Vec<u64>,
+    pub values: &'a [[u8; 8]],
 }
 
 // The number of an answer, and whether all of it is as the stored one.
@@ -21,16 +22,29 @@ pub struct Outcome {
     pub same: bool,
 }
 
-impl Stored {
+impl<'a> Stored<'a> {
+    // Whether these are the stored values.
+    fn has(&self, values: &[u64]) -> bool
+        ensures { IsTrue result ↔ (values.now ≡ map (from_le_bytes w64) self.now.values.now) }
+    {
+        self.values.len() == values.len()
+            && self
+                .values
+                .iter()
+                .map(number)
+                .zip(values)
+                .all(|(stored, value)| stored == *value)
+    }
+
     // A refusal stands in the file by its number, without values.
     pub fn outcome<const N: usize, E: Into<u32>>(&self, answer: Result<[u64; N], E>) -> Outcome
         ensures number { MatchResult answer (λ _. result.number ≡ 0) (λ e. E.converts e result.number) }
-        ensures same { IsTrue result.same ↔ ((result.number ≡ self.now.number) × (values_of answer ≡ self.now.values.items)) }
+        ensures same { IsTrue result.same ↔ ((result.number ≡ self.now.number) × (values_of answer ≡ map (from_le_bytes w64) self.now.values.now)) }
     {
         match answer {
             Ok(values) => Outcome {
                 number: 0,
-                same: self.number == 0 && self.values.as_slice() == values.as_slice(),
+                same: self.number == 0 && self.has(&values),
             },
             Err(refusal) => {
                 let number = refusal.into();
@@ -44,14 +58,16 @@ impl Stored {
 }
 
 // What a question is asked about: the bytes of an image with its patches, its ranges, the question's number and its arguments. And
-// the answer that is wanted. The number stays one: each program has questions of its own.
-#[derive(Drop)]
-pub struct Case {
-    pub image: Vec<u8>,
-    pub ranges: Vec<u64>,
+// the answer that is wanted. The number stays one: each program has questions of its own. The image and its ranges stand in lists
+// that last for the whole of a file, so a question takes no memory of its own. The other numbers stay in the file, eight bytes each,
+// and `number` reads those that a program asks for.
+#[derive(Clone, Copy)]
+pub struct Case<'a> {
+    pub image: &'a [u8],
+    pub ranges: &'a [u64],
     pub id: u32,
-    pub arguments: Vec<u64>,
-    pub stored: Stored,
+    pub arguments: &'a [[u8; 8]],
+    pub stored: Stored<'a>,
 }
 
 // The low four bytes of a number. The file has eight bytes for every number, and some mean one of four.
@@ -61,11 +77,19 @@ pub fn low(number: u64) -> u32
     (number % 0x1_0000_0000) as u32
 }
 
-// The numbers that stand in a file, the lowest byte of each first.
-fn numbers(alloc: Global, bytes: &[[u8; 8]]) -> Result<Vec<u64>, AllocError>
-    ensures { IfOk result (λ made. made.items ≡ map (from_le_bytes w64) bytes.now) }
+// The number that stands in a file, its lowest byte first.
+pub fn number(bytes: &[u8; 8]) -> u64
+    ensures { result ≡ from_le_bytes w64 bytes.now }
 {
-    bytes.iter().map(|b| u64::from_le_bytes(*b)).collect(alloc)
+    u64::from_le_bytes(*bytes)
+}
+
+// Reads the numbers that stand in a file into a list, in place of what it had, and takes memory only where its room is too small.
+pub(crate) fn read_numbers(list: &mut Vec<u64>, bytes: &[[u8; 8]]) -> Result<(), AllocError>
+    ensures { OnOk result (list.new.items ≡ map (from_le_bytes w64) bytes.now) }
+{
+    list.clear();
+    list.extend(bytes.iter().map(number))
 }
 
 // Changes the byte that a patch names, by its offset and its value in four bytes each. None where the offset is outside. A test and
@@ -94,28 +118,32 @@ fn patch_all(image: &mut [u8], patches: &[[u8; 8]]) -> Option<()>
     Some(())
 }
 
-impl Case {
-    // Every question has its image laid out anew, so no patch outlasts its question. None where the patches are not for the image.
+impl<'a> Case<'a> {
+    // Every question has its image laid out anew, so no patch outlasts its question. The list that it is laid out in is lent, since
+    // that of the question before has the room already. None where the patches are not for the image.
     pub(crate) fn new(
-        alloc: Global,
-        image: Image,
-        question: Question,
-    ) -> Result<Option<Case>, AllocError>
+        laid_out: &'a mut Vec<u8>,
+        image: Image<'a>,
+        ranges: &'a [u64],
+        question: Question<'a>,
+    ) -> Result<Option<Self>, AllocError>
+        requires { ranges.now ≡ map (from_le_bytes w64) image.ranges.now }
         ensures value { IfOk result (λ made. IfSome made (IsOf image.entry question.entry)) }
         ensures inside { IfOk result (λ made. IsSome made ↔ All (λ p. offset_of p < length image.entry.bytes.now) question.entry.patches.now) }
     {
-        let mut bytes = Vec::from_slice(alloc, image.bytes)?;
-        if patch_all(&mut bytes, question.patches).is_none() {
+        laid_out.clear();
+        laid_out.extend_from_slice(image.bytes)?;
+        if patch_all(laid_out, question.patches).is_none() {
             return Ok(None);
         }
         Ok(Some(Case {
-            image: bytes,
-            ranges: numbers(alloc, image.ranges)?,
+            image: laid_out,
+            ranges,
             id: question.id,
-            arguments: numbers(alloc, question.arguments)?,
+            arguments: question.arguments,
             stored: Stored {
                 number: question.answer,
-                values: numbers(alloc, question.values)?,
+                values: question.values,
             },
         }))
     }

@@ -1,5 +1,8 @@
 // Asks a program's questions of the images of stored files, and compares each answer with the stored one.
-use crate::case::{Case, Outcome};
+ghost use Rattle.std.specs.Prelude.{◌≡◌, IfSome, map};
+ghost use Rattle.std.specs.Int.{from_le_bytes, w64};
+
+use crate::case::{Case, Outcome, read_numbers};
 use crate::file::read_full;
 use crate::record::{Image, Question, Reader, Record};
 use crate::tally::Tally;
@@ -12,6 +15,9 @@ use std::{fs, io};
 pub trait Questions {
     // Room for more than a stored file has. A file that fills it up may be cut off, and then its end is missing.
     const ROOM: usize;
+
+    // Room for the bytes of an image. A question about a larger one can't be asked, which is known before the image is laid out.
+    const IMAGE_ROOM: usize;
 
     // What the tally of each question is called, by the question's number in the file.
     const LABELS: &'static [(u32, &'static str)];
@@ -39,17 +45,25 @@ impl From<AllocError> for Stop {
     }
 }
 
-// The outcome of a question about the image before it. None where there is none, or where the question can't be asked about it.
-fn ask(
+// The outcome of a question about the image before it, whose ranges are read already. None where there is no image, or where the
+// question can't be asked about it.
+fn ask<'a, Q: Questions>(
     alloc: Global,
-    questions: &impl Questions,
-    image: Option<Image>,
-    question: Question,
-) -> Result<Option<Outcome>, AllocError> {
+    questions: &Q,
+    laid_out: &'a mut Vec<u8>,
+    image: Option<Image<'a>>,
+    ranges: &'a [u64],
+    question: Question<'a>,
+) -> Result<Option<Outcome>, AllocError>
+    requires { IfSome image (λ i. ranges.now ≡ map (from_le_bytes w64) i.ranges.now) }
+{
     let Some(image) = image else {
         return Ok(None);
     };
-    match Case::new(alloc, image, question)? {
+    if Q::IMAGE_ROOM < image.bytes.len() {
+        return Ok(None);
+    }
+    match Case::new(laid_out, image, ranges, question)? {
         Some(case) => questions.ask(alloc, &case),
         None => Ok(None),
     }
@@ -67,22 +81,36 @@ fn show(rt: &impl Print, question: Question, outcome: Outcome) -> io::Result<()>
     println!(rt)
 }
 
-// Takes the records of a file in order, up to its end.
+// Takes the records of a file in order, up to its end. The ranges of an image are read once for all of its questions, when the first
+// of them comes, since some images have none.
 fn replay<R: Print + AllocGlobal>(
     rt: &R,
     questions: &impl Questions,
     file: &[u8],
 ) -> Result<Tally, Stop> {
     let mut tally = Tally::new(rt.alloc());
+    let mut unread = None;
     let mut image = None;
+    let mut ranges = Vec::new(rt.alloc());
+    let mut laid_out = Vec::new(rt.alloc());
     let mut reader = Reader::new(file);
     for record in reader.by_ref() {
         match record {
-            Record::Image(next) => image = Some(next),
+            Record::Image(next) => unread = Some(next),
             Record::Question(question) => {
-                let outcome = ask(rt.alloc(), questions, image, question)?.ok_or(Stop::Unreadable(
-                    question.at,
-                ))?;
+                if let Some(next) = unread.take() {
+                    read_numbers(&mut ranges, next.ranges)?;
+                    image = Some(next);
+                }
+                let asked = ask(
+                    rt.alloc(),
+                    questions,
+                    &mut laid_out,
+                    image,
+                    &ranges,
+                    question,
+                )?;
+                let outcome = asked.ok_or(Stop::Unreadable(question.at))?;
                 if tally.note(question.id, outcome.same)? {
                     show(rt, question, outcome)?;
                 }

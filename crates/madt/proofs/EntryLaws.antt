@@ -1,6 +1,6 @@
 -- Laws about the walk through the entries.
 use Rattle.std.proofs.Common.{ℕ, zero, suc, ◌+◌, ◌-◌, ◌≤◌, ◌<◌, ◌≡◌, refl, ap, sym, subst, ◌∙◌, List, [], ◌∷◌, append-nil, Bool, true, false, true≢false, arith, length, drop, drop_of_length-le, take-append-drop, drop-drop}
-use Rattle.std.specs.Prelude.{Option, Some, None, Result, Ok, Err, IsOk}
+use Rattle.std.specs.Prelude.{Option, Some, None, Result, Ok, Err, IsOk, map}
 use Rattle.refusal.specs.declared.Refusal.{Refusal}
 use Rattle.refusal.specs.declared.Refusal.TheVariants.{InconsistentEntry}
 use Rattle.field.specs.Part.{part}
@@ -9,7 +9,7 @@ use Rattle.field.specs.First.{when, less}
 use Rattle.field.proofs.FirstLaws.{less_yes, less_true, less_false, when_hit, when_pass}
 use Rattle.madt.specs.declared.MadtEntry.{MadtEntry}
 use Rattle.madt.specs.Kinds.{kind_of, least_length}
-use Rattle.madt.specs.Entries.{entry_at, item_at, next_at, walk, entries_from, entries, faulty, joined, EntriesAreTheTable}
+use Rattle.madt.specs.Entries.{entry_at, item_at, next_at, walk, entries_from, entries, faulty, entries_among, joined, EntriesAreTheTable}
 use Rattle.madt.proofs.KindLaws.{at_least_two}
 
 -- An item of the walk.
@@ -210,6 +210,31 @@ pub sound_rest : {items rest : List Item} {item : Item} → faulty items ≡ fal
 unfolding faulty
 sound_rest {rest = rest} {item = Ok e} sound q = rw q at sound
 sound_rest {rest = rest} {item = Err r} sound q = absurd (true≢false (rw q at sound))
+
+-- Where no fault is to come, the items are the entries among them.
+pub among_sound : (items : List Item) → faulty items ≡ false → map (λ (e : MadtEntry). Ok e) (entries_among items) ≡ items
+unfolding faulty entries_among
+among_sound [] sound = refl
+among_sound (Ok e ∷ items) sound = ap (λ (items : List Item). Ok e ∷ items) (among_sound items sound)
+among_sound (Err r ∷ items) sound = absurd (true≢false sound)
+
+-- And an entry stands at each place in front of the table's end, with no fault behind it.
+pub record SoundStep (s : List ℕ) (at : ℕ) : Type 0 where
+  pub here : Stands s at (entry_at s at)
+  pub first : entries_from s at ≡ Ok (entry_at s at) ∷ entries_from s (at + (entry_at s at).len)
+  pub behind : faulty (entries_from s (at + (entry_at s at).len)) ≡ false
+
+pub sound_step : (s : List ℕ) (at : ℕ) → faulty (entries_from s at) ≡ false → at < length s → SoundStep s at
+sound_step s at sound inside = go (next_at s at) refl
+  where
+    go : (x : Option Item) → next_at s at ≡ x → SoundStep s at
+    go None h = absurd (omega (arith, ended s at h))
+    go (Some (Err r)) h = absurd (true≢false (sym (sound_entry sound (from_fault s at r h))))
+    go (Some (Ok e)) h =
+        let st = stands s at e h in
+        let first = from_entry s at e h in
+        subst (λ (e : MadtEntry). Stands s at e → entries_from s at ≡ Ok e ∷ entries_from s (at + e.len) → SoundStep s at) (sym st.is)
+        (λ here first. record { here = here; first = first; behind = sound_rest sound first }) st first
 
 -- The items from a place on, joined, are the bytes from there on: an entry's bytes and those behind it are what is left.
 joined_walk : (n : ℕ) (s : List ℕ) (at : ℕ) → length s ≤ at + n → joined s at (walk n s at) ≡ drop at s

@@ -51,6 +51,12 @@ faulty [] = false
 faulty (Ok e ∷ items) = faulty items
 faulty (Err r ∷ items) = true
 
+-- the entries among the items, without a fault
+unfoldable pub entries_among : List (Result MadtEntry Refusal) → List MadtEntry
+entries_among [] = []
+entries_among (Ok e ∷ items) = e ∷ entries_among items
+entries_among (Err r ∷ items) = entries_among items
+
 -- The item that has k items in front of it.
 unfoldable pub nth : List (Result MadtEntry Refusal) → ℕ → Result MadtEntry Refusal
 nth items k = unwrap_or (slice_get items k) (Err NotThere)
@@ -58,11 +64,11 @@ nth items k = unwrap_or (slice_get items k) (Err NotThere)
 unfoldable pub entry_of : List ℕ → ℕ → Result MadtEntry Refusal
 entry_of s k = and_then (madt_checked s) (λ _. nth (entries s) k)
 
--- The bytes of the items from `at` on, one item behind the other; a fault has all that are left.
+-- The bytes of the items from `at` on, one item behind the other. A fault has all that are left, so a second one would tell them twice.
 unfoldable pub joined : List ℕ → ℕ → List (Result MadtEntry Refusal) → List ℕ
 joined s at [] = []
 joined s at (Ok e ∷ items) = part s e.at e.len ++ joined s (e.at + e.len) items
-joined s at (Err r ∷ items) = drop at s ++ joined s (length s) items
+joined s at (Err r ∷ items) = drop at s ++ joined s at items
 
 -- The entries, joined, are exactly the bytes behind the fixed part: none is skipped, none is told twice, and they are in order.
 abbrev pub EntriesAreTheTable : Type 0

@@ -4,3 +4,4 @@ pub mod Fields
 pub mod Fixed
 pub mod Entries
 pub mod Walk
+pub mod SoundEntries

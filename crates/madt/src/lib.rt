@@ -2,10 +2,10 @@
 // A table is any slice of bytes; what is no such table, and what is no entry, is refused.
 #![tactic(auto)]
 
-ghost use Rattle.std.specs.Prelude.{◌≡◌, ◌<◌, length};
+ghost use Rattle.std.specs.Prelude.{◌≡◌, ◌<◌, false, length, map};
 ghost use Rattle.madt.specs.Kinds.{kind_of, least_length};
 ghost use Rattle.madt.specs.Fixed.{madt_checked, fixed_of};
-ghost use Rattle.madt.specs.Entries.{item_at, next_at, entries, entry_of};
+ghost use Rattle.madt.specs.Entries.{item_at, next_at, entries_from, entries, faulty, entry_of};
 ghost use Rattle.madt.specs.Walk.{left};
 
 use refusal::Refusal;
@@ -174,6 +174,55 @@ pub fn entries(table: &[u8]) -> Walk<'_>
     ensures { left result ≡ entries table.now }
 {
     Walk { table, at: 44 }
+}
+
+// The same walk where no fault is to come. That is known, so that an entry is not tested again: its kind and its length
+// are read, and only the table's end is asked for.
+#[derive(Clone, Copy)]
+pub struct SoundEntries<'a> {
+    table: &'a [u8],
+    at: usize,
+    ghost sound: { faulty (entries_from table.now at) ≡ false },
+}
+
+impl<'a> SoundEntries<'a> {
+    ghost use Rattle.madt.specs.SoundEntries.{sound_left};
+
+    // The entries of a table that has the fixed part and no fault, as a caller knows that has gone through them before.
+    #[tactic(auto, using(crate::proofs::EntryLaws::among_sound), unfolding(crate::specs::Entries::entries))]
+    pub fn of(table: &'a [u8]) -> SoundEntries<'a>
+        requires { faulty (entries table.now) ≡ false }
+        ensures { map Ok (sound_left result) ≡ entries table.now }
+    {
+        SoundEntries { table, at: 44 }
+    }
+}
+
+impl Iterator for SoundEntries<'_> {
+    ghost use Rattle.std.specs.Iterator.{YieldsFirst, item_count};
+    ghost use Rattle.madt.specs.SoundEntries.{sound_left};
+
+    type Item = MadtEntry;
+
+    ghost next_gives = { YieldsFirst sound_left };
+
+    ghost remaining = { item_count sound_left };
+
+    fn next(&mut self) -> Option<MadtEntry> {
+        let at = self.at;
+        if self.table.len() <= at {
+            return None;
+        }
+        let number = field::u8_at(self.table, at);
+        let len = field::u8_at(self.table, at + 1) as usize;
+        self.at = at + len;
+        Some(MadtEntry {
+            kind: Kind::from(number),
+            number,
+            at,
+            len,
+        })
+    }
 }
 
 // The entry that has k entries in front of it.

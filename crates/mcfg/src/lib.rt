@@ -17,13 +17,15 @@ pub struct McfgEntry {
 }
 
 impl McfgEntry {
-    // Whether the entry has the segment group, and the bus among its buses. Windows most often differ in the first.
+    // Whether the entry has the segment group, and the bus among its buses. Windows most often differ in the first, which is
+    // tested by itself: of the three in one condition the compiler tests another first.
     fn includes(self, segment: u16, bus: u8) -> bool
         ensures { result ≡ includes segment bus self }
     {
-        self.pci_segment_group == segment
-            && self.bus_number_start <= bus
-            && bus <= self.bus_number_end
+        if self.pci_segment_group != segment {
+            return false;
+        }
+        self.bus_number_start <= bus && bus <= self.bus_number_end
     }
 
     // The address of a function in the window, whose entry includes the bus.

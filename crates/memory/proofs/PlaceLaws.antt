@@ -12,10 +12,7 @@ use Rattle.field.proofs.FirstLaws.{when_hit, when_pass}
 use Rattle.field.proofs.PartLaws.{part_length, part_at}
 use Rattle.std.specs.List.{list_all, AllWithin, slice_get}
 use Rattle.std.specs.List.Sorted.{IsPartitionPoint, IsPartitionedBy}
-use Rattle.std.specs.Fn.{Called, ComputesKey}
-use Rattle.std.proofs.lemmas.List.Sorted.{IsPartitionedBy-leb, IsPartitionPoint-from_clause}
-use denote.Param.Members.{Mut}
-use denote.Ref.{Bor}
+use Rattle.std.proofs.lemmas.List.Sorted.{IsPartitionedBy-leb}
 use Rattle.std.specs.Option.{MatchOption, IfSome, is_some}
 use Rattle.std.proofs.lemmas.Bool.{and_parts}
 use Rattle.memory.specs.Ranges.{range_of, ranges_of, inside, ordered, right}
@@ -184,15 +181,12 @@ module _ (size : ℕ) (words : List ℕ) (p : ℕ) (l : List (List ℕ)) (e : ri
       rw last
       (inside_at size l i [] within (omega arith), ap (λ (rs : List Range). place_of rs p) (sym same) ∙ last_decides l i p order (omega arith) point.0 point.1)
 
-  pub last_of_part : (i : ℕ) → i ≤ length l → {F : Type 0} {g : Mut F (Bor (List ℕ) × Unit {0}) Bool} {f : F}
-      → ((q : List ℕ → Bool) → ComputesKey g q f → IsPartitionedBy q l → IsPartitionPoint (λ n. q n ≡ true) (λ n. q n ≡ false) l i)
-      → ((a : Bor (List ℕ) × Unit {0}) (r : Bool) (f' : F) → Called g f a r f' → (r ≡ leb (range_of a.0.now).start p) × (f' ≡ f))
+  pub last_of_part : (i : ℕ) → i ≤ length l
+      → (IsPartitionedBy (λ n. leb (range_of n).start p) l → IsPartitionPoint (λ n. leb (range_of n).start p ≡ true) (λ n. leb (range_of n).start p ≡ false) l i)
       → Decides (slice_get (take i l) (length (take i l) - 1))
-  last_of_part i b clause calls =
+  last_of_part i b parted =
       let order = ap ordered same ∙ right_ordered size words e in
-      last_in_front i b
-      (IsPartitionPoint-from_clause (λ (n : List ℕ). leb (range_of n).start p) l i clause
-      (IsPartitionedBy-leb (λ (n : List ℕ). (range_of n).start) l p (starts_ascend l order)) calls)
+      last_in_front i b (parted (IsPartitionedBy-leb (λ (n : List ℕ). (range_of n).start) l p (starts_ascend l order)))
 
 -- The view at a place is that part of the slice.
 pub view_at : (image words : List ℕ) (p : ℕ) (place : Place) → place_of (ranges_of words) p ≡ Some place

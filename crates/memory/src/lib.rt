@@ -2,8 +2,9 @@
 // Addresses are compared and subtracted, and never added to before a range is found.
 #![tactic(auto)]
 
-ghost use Rattle.std.specs.Prelude.{◌≡◌, true, false, ◌+◌, ◌/◌, ◌^◌, ◌≤◌, ◌<◌, length, map, IfOk, IfErr, MatchOption};
+ghost use Rattle.std.specs.Prelude.{◌≡◌, true, false, leb, ◌+◌, ◌/◌, ◌^◌, ◌≤◌, ◌<◌, length, map, IfOk, IfErr, MatchOption};
 ghost use Rattle.std.specs.List.{list_all};
+ghost use Rattle.std.specs.List.Sorted.{IsPartitionPoint, IsPartitionedBy};
 ghost use Rattle.field.specs.First.{when};
 ghost use Rattle.memory.specs.Ranges.{range_of, ranges_of, inside, follows, ordered, right};
 ghost use Rattle.memory.specs.Places.{holds, place_in, place_of, view_of};
@@ -86,6 +87,17 @@ fn listed(numbers: &[u64]) -> &[[u64; 3]]
     ranges
 }
 
+// How many ranges start at the address or below, in a list that ascends. It stays a call: laid open in the walk through a root
+// table its branches were guessed wrong (docs/BENCHMARK.md).
+#[inline(never)]
+fn starting_up_to(ranges: &[[u64; 3]], p: u64) -> usize
+    ensures bound { result ≤ length ranges.now }
+    ensures parted { IsPartitionedBy (λ numbers. leb (range_of numbers).start p) ranges.now
+        → IsPartitionPoint (λ numbers. leb (range_of numbers).start p ≡ true) (λ numbers. leb (range_of numbers).start p ≡ false) ranges.now result }
+{
+    ranges.partition_point(|numbers| Range::from(*numbers).start <= p)
+}
+
 fn are_inside(ranges: &[[u64; 3]], size: usize) -> bool
     ensures { result ≡ list_all (inside size) (map range_of ranges.now) }
 {
@@ -134,18 +146,20 @@ impl<'a, 'r> Memory<'a, 'r> {
     }
 
     // The last range that starts at the address or below. The ranges ascend, so no other can hold the address.
+    #[inline(always)]
     fn last_up_to(self, p: u64) -> Option<Range>
         ensures { MatchOption result (place_of (ranges_of self.entry.ranges.now) p ≡ None)
             (λ range. (inside (length self.entry.image.now) range ≡ true)
             × (place_of (ranges_of self.entry.ranges.now) p ≡ when (holds range p) (Some (place_in range p)) None)) }
     {
         let ranges = listed(self.ranges);
-        let starting = ranges.partition_point(|numbers| Range::from(*numbers).start <= p);
+        let starting = starting_up_to(ranges, p);
         let numbers = ranges[..starting].last()?;
         Some(Range::from(*numbers))
     }
 
     // Where the address stands, if a range holds it.
+    #[inline(always)]
     pub fn locate(self, p: u64) -> Option<Place>
         ensures { result ≡ place_of (ranges_of self.entry.ranges.now) p }
     {
@@ -153,14 +167,42 @@ impl<'a, 'r> Memory<'a, 'r> {
         range.has(p).then(|| range.place(p))
     }
 
-    // All bytes from the address to the end of its range; an empty slice where no range holds it, and no Option: unmapped and
-    // too short are one case (docs/DECISIONS.md, 2).
+    // The place of an address, and all bytes from there to the end of its range, by one search: an empty slice where no range
+    // holds the address, and no Option: unmapped and too short are one case (docs/DECISIONS.md, 2).
+    #[inline(always)]
+    pub fn look_up(self, p: u64) -> (Option<Place>, &'a [u8])
+        ensures place { result.0 ≡ place_of (ranges_of self.entry.ranges.now) p }
+        ensures bytes { result.1.now ≡ view_of self.entry.image.now self.entry.ranges.now p }
+    {
+        let place = self.locate(p);
+        match place {
+            Some(Place { offset, room }) => (place, &self.image[offset..offset + room]),
+            None => (place, &self.image[..0]),
+        }
+    }
+
+    // The bytes alone.
+    #[inline(always)]
     pub fn view(self, p: u64) -> &'a [u8]
         ensures { result.now ≡ view_of self.entry.image.now self.entry.ranges.now p }
     {
-        match self.locate(p) {
-            Some(Place { offset, room }) => &self.image[offset..offset + room],
-            None => &self.image[..0],
-        }
+        let (_, bytes) = self.look_up(p);
+        bytes
     }
+}
+
+// As `Memory::locate`, of a slice and a right list of its ranges. This public form keeps its demand and no refusal.
+pub fn locate(image: &[u8], ranges: &[u64], p: u64) -> Option<Place>
+    requires { right (length image.now) ranges.now ≡ true }
+    ensures { result ≡ place_of (ranges_of ranges.now) p }
+{
+    Memory { image, ranges }.locate(p)
+}
+
+// As `Memory::view`, in the same way.
+pub fn view<'a>(image: &'a [u8], ranges: &[u64], p: u64) -> &'a [u8]
+    requires { right (length image.now) ranges.now ≡ true }
+    ensures { result.now ≡ view_of image.now ranges.now p }
+{
+    Memory { image, ranges }.view(p)
 }

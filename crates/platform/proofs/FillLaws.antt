@@ -1,9 +1,11 @@
 -- Laws about filling the lent tables.
 use Rattle.std.proofs.Common.{ℕ, ◌+◌, ◌≤◌, ◌<◌, ◌≡◌, refl, ap, ap₂, subst, sym, ◌∙◌, List, [], ◌∷◌, ◌++◌, append-nil, append_assoc, Bool, true, false, true≢false, arith, length, take, drop, length-append, length-take, take-append-drop, drop-drop, ne_eqb}
-use Rattle.std.specs.Prelude.{Option, Some, Ok, if◌then◌else◌}
+use Rattle.std.specs.Prelude.{Option, Some, Ok, if◌then◌else◌, map}
 use Rattle.field.specs.First.{when}
 use Rattle.field.proofs.FirstLaws.{when_hit, when_pass}
 use Rattle.madt.specs.Entries.{entries}
+use Rattle.madt.specs.SoundEntries.{sound_left}
+use Rattle.madt.specs.declared.SoundEntries.{SoundEntries}
 use Rattle.madt.proofs.EntryLaws.{Item}
 use Rattle.madt.specs.declared.MadtEntry.{MadtEntry}
 use Rattle.madt.specs.declared.Kind.{Kind}
@@ -25,6 +27,10 @@ use Rattle.platform.specs.declared.State.{State}
 use Rattle.platform.specs.declared.State.TheVariants.{Waiting, Running}
 use Rattle.platform.specs.Fill.{over}
 use Rattle.platform.specs.Inner.{enabled_at}
+
+-- what the walk is to come to yet, as items of the table
+abbrev pub to_come : SoundEntries → List Item
+to_come w = map Ok (sound_left w)
 
 -- of five things, in the order of the lists, the one of a list
 abbrev pub of_list : {A : Type 0} → A → A → A → A → A → ListName → A

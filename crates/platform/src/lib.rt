@@ -311,11 +311,8 @@ pub fn fill(
     let mut interrupt_source_overrides = Lent::new(interrupt_source_overrides);
     let mut nmi_sources = Lent::new(nmi_sources);
     let mut local_apic_nmi_lines = Lent::new(local_apic_nmi_lines);
-    for found in madt::entries(table) {
-        let entry = Entry {
-            table,
-            e: found.unwrap(),
-        };
+    for e in madt::SoundEntries::of(table) {
+        let entry = Entry { table, e };
         match entry.to_record(enabled_at(processors.written)) {
             Some(Record::Processor(record)) => processors.push(&record),
             Some(Record::IoApic(record)) => io_apics.push(&record),

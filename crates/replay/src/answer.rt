@@ -1,5 +1,5 @@
 // The ten questions about an image, asked of the proved functions, and the values of their answers as the stored file has them.
-use cases::case::{Case, Outcome, low};
+use cases::case::{Case, Outcome, low, number};
 use cases::replay::Questions;
 use memory::Memory;
 use rsdp::Rsdp;
@@ -7,16 +7,16 @@ use sdt::Wanted;
 use std::alloc::{AllocError, Global};
 use tables::{RootTable, Table};
 
-// The largest image has an area of the search and the word at 40e. A larger case is refused, as one with more ranges is.
-const IMAGE_ROOM: usize = 0x2_0004;
-
-// Room for 66 ranges, two more than a right list has.
+// Room for 66 ranges, two more than a right list has. A case with more is refused.
 const RANGES_ROOM: usize = 66 * 3;
 
 pub struct ImageQuestions;
 
 impl Questions for ImageQuestions {
     const ROOM: usize = 0x10_0000;
+
+    // The largest image has an area of the search and the word at 40e.
+    const IMAGE_ROOM: usize = 0x2_0004;
 
     const LABELS: &'static [(u32, &'static str)] = &[
         (1, "1 is_right"),
@@ -32,6 +32,9 @@ impl Questions for ImageQuestions {
     ];
 
     fn ask(&self, _alloc: Global, case: &Case) -> Result<Option<Outcome>, AllocError> {
+        if RANGES_ROOM < case.ranges.len() {
+            return Ok(None);
+        }
         Ok(ask(case))
     }
 }
@@ -39,39 +42,59 @@ impl Questions for ImageQuestions {
 // Asks the question that has this number and so many arguments. tests/reference/reading.py has the same numbers, which stay numbers
 // here: an enum of the questions would name each call a second time and say nothing more.
 fn ask(case: &Case) -> Option<Outcome> {
-    let image = case.image.as_slice();
-    let ranges = case.ranges.as_slice();
-    if IMAGE_ROOM < image.len() || RANGES_ROOM < ranges.len() {
-        return None;
-    }
+    let image = case.image;
+    let ranges = case.ranges;
     let stored = &case.stored;
-    let outcome = match (case.id, case.arguments.as_slice()) {
+    let outcome = match (case.id, case.arguments) {
         (1, []) => stored.outcome(Memory::new(image, ranges).map(|_| [])),
         (2, [address]) => {
-            stored.outcome(rsdp::root_pointer_at(image, ranges, *address).map(of_pointer))
+            stored.outcome(rsdp::root_pointer_at(image, ranges, number(address)).map(of_pointer))
         }
         (3, []) => stored.outcome(rsdp::search_for_on_bios(image, ranges).map(|address| [address])),
-        (4, [rsdp]) => stored.outcome(tables::root_table(image, ranges, *rsdp).map(of_root)),
+        (4, [rsdp]) => stored.outcome(tables::root_table(image, ranges, number(rsdp)).map(of_root)),
         (5, [rsdp, k]) => {
-            stored.outcome(tables::root_entry(image, ranges, *rsdp, *k).map(|address| [address]))
+            stored.outcome(tables::root_entry(image, ranges, number(rsdp), number(k)).map(
+                |address| [address],
+            ))
         }
         (6, [rsdp, signature, least]) => {
-            let found = tables::find_table(image, ranges, *rsdp, low(*signature), low(*least));
+            let found = tables::find_table(
+                image,
+                ranges,
+                number(rsdp),
+                low(number(signature)),
+                low(number(least)),
+            );
             stored.outcome(found.map(of_table))
         }
         (7, [rsdp, signature, least, n]) => {
-            let wanted = Wanted::Signature(low(*signature));
-            let found = tables::nth_table(image, ranges, *rsdp, wanted, low(*least), *n);
+            let wanted = Wanted::Signature(low(number(signature)));
+            let found = tables::nth_table(
+                image,
+                ranges,
+                number(rsdp),
+                wanted,
+                low(number(least)),
+                number(n),
+            );
             stored.outcome(found.map(of_table))
         }
-        (8, [rsdp, n]) => { stored.outcome(tables::header(image, ranges, *rsdp, *n).map(of_table)) }
+        (8, [rsdp, n]) => {
+            stored.outcome(tables::header(image, ranges, number(rsdp), number(n)).map(of_table))
+        }
         (9, [address, signature, least]) => {
-            let wanted = Wanted::Signature(low(*signature));
-            let found = tables::table_at(image, ranges, *address, wanted, low(*least));
+            let wanted = Wanted::Signature(low(number(signature)));
+            let found = tables::table_at(
+                image,
+                ranges,
+                number(address),
+                wanted,
+                low(number(least)),
+            );
             stored.outcome(found.map(of_table))
         }
         (10, [address]) => {
-            let found = tables::table_at(image, ranges, *address, Wanted::Any, 36);
+            let found = tables::table_at(image, ranges, number(address), Wanted::Any, 36);
             stored.outcome(found.map(of_table))
         }
         _ => return None,

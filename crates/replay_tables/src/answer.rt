@@ -1,7 +1,7 @@
 // The questions about a table, asked of the proved functions, and the values of their answers as the stored file has them.
 use crate::lists;
 use address::GenericAddress;
-use cases::case::{Case, Outcome, low};
+use cases::case::{Case, Outcome, low, number};
 use cases::replay::Questions;
 use hpet::HpetInfo;
 use madt::{Madt, MadtEntry};
@@ -10,13 +10,13 @@ use platform::Model;
 use refusal::Refusal;
 use std::alloc::{AllocError, Global};
 
-// Room for a table of 4,096 processors. A larger case is refused.
-const TABLE_ROOM: usize = 36864;
-
 pub struct TableQuestions;
 
 impl Questions for TableQuestions {
     const ROOM: usize = 0x20_0000;
+
+    // Room for a table of 4,096 processors.
+    const IMAGE_ROOM: usize = 36864;
 
     const LABELS: &'static [(u32, &'static str)] = &[
         (20, "question 20, MCFG, number of entries"),
@@ -36,11 +36,11 @@ impl Questions for TableQuestions {
     ];
 
     fn ask(&self, alloc: Global, case: &Case) -> Result<Option<Outcome>, AllocError> {
-        if TABLE_ROOM < case.image.len() {
-            return Ok(None);
-        }
-        match (case.id, case.arguments.as_slice()) {
-            (53, [p, i, o, n, l]) => lists::ask(alloc, case, [*p, *i, *o, *n, *l]),
+        match (case.id, case.arguments) {
+            (53, [p, i, o, n, l]) => {
+                let lengths = [number(p), number(i), number(o), number(n), number(l)];
+                lists::ask(alloc, case, lengths)
+            }
             _ => Ok(ask(case)),
         }
     }
@@ -49,33 +49,33 @@ impl Questions for TableQuestions {
 // Asks the question that has this number and so many arguments, other than the one for the lists. tests/reference/reading.py has
 // the same numbers, which stay numbers here: an enum of the questions would name each call a second time and say nothing more.
 fn ask(case: &Case) -> Option<Outcome> {
-    let table = case.image.as_slice();
+    let table = case.image;
     let stored = &case.stored;
-    let outcome = match (case.id, case.arguments.as_slice()) {
+    let outcome = match (case.id, case.arguments) {
         (20, []) => stored.outcome(mcfg::entry_count(table).map(|count| [count as u64])),
-        (21, [k]) => stored.outcome(mcfg::entry(table, *k as usize).map(of_window)),
+        (21, [k]) => stored.outcome(mcfg::entry(table, number(k) as usize).map(of_window)),
         (22, [segment, bus, device, function]) => {
             let answer = mcfg::physical_address(
                 table,
-                low_half(*segment),
-                low_byte(*bus),
-                low_byte(*device),
-                low_byte(*function),
+                low_half(number(segment)),
+                low_byte(number(bus)),
+                low_byte(number(device)),
+                low_byte(number(function)),
             );
             stored.outcome(answer.map(|address| [address]))
         }
         (30, []) => stored.outcome(hpet::hpet_info(table).map(of_timer)),
-        (40, [which]) => stored.outcome(register(table, *which).map(of_generic)),
+        (40, [which]) => stored.outcome(register(table, number(which)).map(of_generic)),
         (41, []) => stored.outcome(fadt::facs_address(table).map(|address| [address])),
         (42, []) => stored.outcome(fadt::dsdt_address(table).map(|address| [address])),
         // The second argument, how many bytes the field has, follows from the first.
-        (43, [offset, _]) => stored.outcome(fadt_field(table, *offset).map(|value| [value])),
+        (43, [offset, _]) => stored.outcome(fadt_field(table, number(offset)).map(|value| [value])),
         (44, [offset, bit]) => {
-            let word = fadt_field(table, *offset);
-            stored.outcome(word.map(|word| [u64::from(fadt::flag(word, low(*bit)))]))
+            let word = fadt_field(table, number(offset));
+            stored.outcome(word.map(|word| [u64::from(fadt::flag(word, low(number(bit))))]))
         }
         (50, []) => stored.outcome(madt::fixed_part(table).map(of_fixed)),
-        (51, [k]) => stored.outcome(madt::entry(table, *k as usize).map(of_entry)),
+        (51, [k]) => stored.outcome(madt::entry(table, number(k) as usize).map(of_entry)),
         (52, []) => stored.outcome(platform::interrupt_model(table).map(of_model)),
         (54, []) => stored.outcome(platform::mailbox_address(table).map(|address| [address])),
         _ => return None,

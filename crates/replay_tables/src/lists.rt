@@ -1,5 +1,5 @@
 // The five lists of the interrupt model, filled into lent tables and compared word by word with the stored ones.
-use cases::case::{Case, Outcome, low};
+use cases::case::{Case, Outcome, low, number};
 use std::alloc::{AllocError, Global};
 
 // What stands in a lent table before it is filled. No record of a stored case has this word.
@@ -58,7 +58,7 @@ impl Tables {
     }
 
     // Whether they hold the stored lists, which stand one after the other in the values of the answer.
-    fn hold(&self, values: &[u64]) -> bool {
+    fn hold(&self, values: &[[u8; 8]]) -> bool {
         let behind = self
             .in_order()
             .iter()
@@ -72,13 +72,13 @@ fn is_untouched(words: &[u32]) -> bool {
 }
 
 // Whether a table has the stored words at its start, and behind them what was there before.
-fn holds(table: &[u32], stored: &[u64]) -> bool {
+fn holds(table: &[u32], stored: &[[u8; 8]]) -> bool {
     match table.split_at_checked(stored.len()) {
         Some((front, back)) => {
             front
                 .iter()
                 .zip(stored)
-                .all(|(word, value)| u64::from(*word) == *value)
+                .all(|(word, value)| u64::from(*word) == number(value))
                 && is_untouched(back)
         }
         None => false,
@@ -86,9 +86,9 @@ fn holds(table: &[u32], stored: &[u64]) -> bool {
 }
 
 // The values behind the first list of some, if a table holds just that list. The words of a list stand behind their count.
-fn behind_held<'a>(table: &[u32], values: &'a [u64]) -> Option<&'a [u64]> {
+fn behind_held<'a>(table: &[u32], values: &'a [[u8; 8]]) -> Option<&'a [[u8; 8]]> {
     let (count, rest) = values.split_first()?;
-    let (list, behind) = rest.split_at_checked(low(*count) as usize)?;
+    let (list, behind) = rest.split_at_checked(low(number(count)) as usize)?;
     holds(table, list).then_some(behind)
 }
 
@@ -99,9 +99,9 @@ pub fn ask(alloc: Global, case: &Case, lengths: [u64; 5]) -> Result<Option<Outco
         return Ok(None);
     }
     let mut tables = Tables::untouched(alloc, lengths.map(|length| length as usize))?;
-    let number = tables.fill(&case.image);
+    let number = tables.fill(case.image);
     let right = if case.stored.number == 0 {
-        tables.hold(&case.stored.values)
+        tables.hold(case.stored.values)
     } else {
         tables.are_untouched()
     };

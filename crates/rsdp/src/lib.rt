@@ -48,10 +48,10 @@ struct Structure<'a> {
 
 // Addresses 16 bytes apart, all below 4 GiB, at which a root pointer may stand.
 #[derive(Clone, Copy)]
-struct Area {
-    start: u64,
-    places: u64,
-    ghost below_4_gib: { start + 16 * places ≤ 2 ^ 32 },
+pub struct Area {
+    pub start: u64,
+    pub places: u64,
+    pub ghost below_4_gib: { start + 16 * places ≤ 2 ^ 32 },
 }
 
 // How many bytes the structure at the start of the view has.

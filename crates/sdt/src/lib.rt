@@ -2,10 +2,11 @@
 // A view is the slice from the table's start to the end of what is mapped there.
 #![tactic(auto)]
 
-ghost use Rattle.std.specs.Prelude.{◌≡◌, ◌≤◌, ◌<◌, ◌%◌, max, ◌⊎◌, [], ◌∷◌, length, sum, MatchOption, OnOk};
-ghost use Rattle.refusal.specs.declared.Refusal.TheVariants.{WrongChecksum, TooShort};
+ghost use Rattle.std.specs.Prelude.{◌≡◌, ◌≤◌, ◌<◌, ◌%◌, max, not, ◌⊎◌, [], ◌∷◌, length, sum, MatchOption, OnOk};
+ghost use Rattle.refusal.specs.declared.Refusal.TheVariants.{WrongOemId, WrongTableId, WrongChecksum, TooShort};
 ghost use Rattle.field.specs.First.{less, differ, ◌gives◌, checked};
-ghost use Rattle.sdt.specs.Header.{header_size, length_of, whole_of};
+ghost use Rattle.field.specs.Text.{text};
+ghost use Rattle.sdt.specs.Header.{header_size, length_of, maker_of, table_id_of, whole_of};
 ghost use Rattle.sdt.specs.Valid.{wrong_signature, header_reasons, whole_checked, table_checked, root_checked};
 
 use refusal::Refusal;
@@ -20,6 +21,7 @@ pub enum Wanted {
 }
 
 #[tactic(auto, unfolding(crate::specs::Valid::wrong_signature, field::specs::First::differ, field::specs::Part::part))]
+#[inline(always)]
 fn has_wrong_signature(view: &[u8], wanted: Wanted) -> bool
     requires { header_size ≤ length view.now }
     ensures { result ≡ wrong_signature wanted view.now }
@@ -30,15 +32,13 @@ fn has_wrong_signature(view: &[u8], wanted: Wanted) -> bool
     }
 }
 
-// The header's own faults.
-#[tactic(auto, unfolding(crate::specs::Valid::header_reasons, field::specs::First::checked, field::specs::First::when, field::specs::Part::part))]
-fn check_header(view: &[u8], wanted: Wanted) -> Result<(), Refusal>
+// Whether the ids of the table's maker are text.
+#[tactic(auto, unfolding(field::specs::First::checked, field::specs::First::when, field::specs::Part::part))]
+#[inline(never)]
+fn check_ids(view: &[u8]) -> Result<(), Refusal>
     requires { header_size ≤ length view.now }
-    ensures { result ≡ checked (header_reasons wanted view.now) }
+    ensures { result ≡ checked ((not (text (maker_of view.now)) gives WrongOemId) ∷ (not (text (table_id_of view.now)) gives WrongTableId) ∷ []) }
 {
-    if has_wrong_signature(view, wanted) {
-        return Err(Refusal::WrongSignature);
-    }
     if !field::is_text(&view[10..16]) {
         return Err(Refusal::WrongOemId);
     }
@@ -46,6 +46,20 @@ fn check_header(view: &[u8], wanted: Wanted) -> Result<(), Refusal>
         return Err(Refusal::WrongTableId);
     }
     Ok(())
+}
+
+// The header's own faults. A search passes over most tables by their signature, so that test is made where the table is looked at,
+// and the rest is called.
+#[tactic(auto, unfolding(crate::specs::Valid::header_reasons, field::specs::First::checked, field::specs::First::when, field::specs::Part::part))]
+#[inline(always)]
+fn check_header(view: &[u8], wanted: Wanted) -> Result<(), Refusal>
+    requires { header_size ≤ length view.now }
+    ensures { result ≡ checked (header_reasons wanted view.now) }
+{
+    if has_wrong_signature(view, wanted) {
+        return Err(Refusal::WrongSignature);
+    }
+    check_ids(view)
 }
 
 // Whether the bytes of a whole table sum to 0.
@@ -71,6 +85,7 @@ fn check_length(len: u32, least: u32) -> Result<(), Refusal>
 }
 
 // The table at the start of the view, for whoever wants this signature and at least so many bytes: valid, or why not.
+#[inline(always)]
 pub fn check_table(view: &[u8], wanted: Wanted, least: u32) -> Result<(), Refusal>
     ensures { result ≡ table_checked wanted least view.now }
 {

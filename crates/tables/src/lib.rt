@@ -14,7 +14,7 @@ ghost use Rattle.tables.specs.declared.RootTable.{RootTable};
 mod listing;
 
 use listing::Entries;
-use memory::Memory;
+use memory::{Memory, Place};
 use refusal::Refusal;
 use rsdp::Rsdp;
 use sdt::Wanted;
@@ -111,13 +111,13 @@ pub struct Table {
     pub len: usize,
 }
 
-// The offset of an address in the slice. It is 0 where no range holds the address, as the definition `offset_of` says; of a valid
+// The offset of a place in the slice. It is 0 where no range holds the address, as the definition `offset_of` says; of a valid
 // table one does.
 #[tactic(auto, unfolding(crate::specs::Root::offset_of))]
-fn offset_of(memory: Memory, p: u64) -> usize
-    ensures { result ≡ offset_of (place_of (ranges_of memory.entry.ranges.now) p) }
+fn offset_of(place: Option<Place>) -> usize
+    ensures { result ≡ offset_of place }
 {
-    memory.locate(p).map_or(0, |place| place.offset)
+    place.map_or(0, |place| place.offset)
 }
 
 // All bytes of the table at an address whose header is mapped, or as many of them as are.
@@ -134,13 +134,13 @@ fn whole_in<'a>(memory: Memory<'a, '_>, address: u64) -> &'a [u8]
 fn root_at(memory: Memory, kind: RootKind, address: u64) -> Result<RootTable, Refusal>
     ensures { result ≡ root_at memory.entry.image.now memory.entry.ranges.now kind address }
 {
-    let view = memory.view(address);
+    let (start, view) = memory.look_up(address);
     sdt::check_root(view, Wanted::Signature(kind.signature()))?;
     let len = sdt::stated_length(view) as usize;
     Ok(RootTable {
         kind,
         address,
-        at: offset_of(memory, address),
+        at: offset_of(start),
         len,
         entry_size: kind.size(),
         entries: kind.entry_count(len),
@@ -175,14 +175,15 @@ fn root_entries<'a>(memory: Memory<'a, '_>, rsdp: u64) -> Result<Entries<'a>, Re
 
 // The table at an address, if nothing refuses it. The signature and the length wanted stay two parameters, as in every
 // question from outside: a struct of both would be made there and taken apart here.
+#[inline(always)]
 fn valid_table(memory: Memory, p: u64, wanted: Wanted, least: u32) -> Result<Table, Refusal>
     ensures { result ≡ valid_table memory.entry.image.now memory.entry.ranges.now wanted least p }
 {
-    let view = memory.view(p);
+    let (place, view) = memory.look_up(p);
     sdt::check_table(view, wanted, least)?;
     Ok(Table {
         address: p,
-        at: offset_of(memory, p),
+        at: offset_of(place),
         len: sdt::stated_length(view) as usize,
     })
 }

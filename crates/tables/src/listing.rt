@@ -34,6 +34,7 @@ impl<'a> Iterator for Entries<'a> {
 
     ghost remaining = { item_count (λ s. entries_in s.kind s.bytes.now) };
 
+    #[inline(always)]
     fn next(&mut self) -> Option<u64> {
         let (entry, rest) = self.bytes.split_at_checked(self.kind.size())?;
         self.bytes = rest;

@@ -8,6 +8,7 @@ ghost use Rattle.tablewalk.specs.Platform.{model_part, wide_timer, timer_of, pla
 
 use crate::find::{APIC, FACP, first_table};
 use address::GenericAddress;
+use answers::fixed::profile_number;
 use answers::{Values, put, report};
 use fadt::{PowerProfile, RegisterBlock};
 use platform::Model;
@@ -112,7 +113,7 @@ impl Values for PlatformInfo {
         put(
             out,
             &[
-                u8::from(self.power_profile) as u64,
+                profile_number(self.power_profile),
                 m.known as u64,
                 m.local_apic_address,
                 m.also_has_legacy_pics as u64,

@@ -14,6 +14,7 @@ ghost use Rattle.tablewalk.specs.Fadt.{register_of, number_of};
 ghost use Rattle.std.specs.Prelude.{◌≡◌};
 
 use address::GenericAddress;
+use answers::fixed::profile_number;
 use answers::{number, report};
 use refusal::Refusal;
 
@@ -165,7 +166,7 @@ pub fn fadt_number(table: &[u8], which: u32) -> Result<u64, Refusal>
         1 => fadt::dsdt_address(table),
         2 => fadt::reset_value(table),
         3 => fadt::arm_boot_arch(table),
-        4 => Ok(u8::from(fadt::power_profile(table)?) as u64),
+        4 => Ok(profile_number(fadt::power_profile(table)?)),
         _ => {
             fadt::power_profile(table)?;
             Err(Refusal::NotThere)

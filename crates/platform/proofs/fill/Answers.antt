@@ -1,14 +1,12 @@
 -- `fill` meets its contract: what refuses does so before anything is written, and where nothing does there is room.
 use Rattle.std.proofs.Common.{◌≡◌, ◌∙◌, refl, ap, sym, subst, arith, length, rules}
 use Rattle.std.proofs.lemmas.Result.{err_from_is_err_and}
-use Rattle.std.specs.Prelude.{Option, Some}
-use Rattle.madt.specs.Entries.{faulty}
-use Rattle.madt.specs.Walk.{left}
-use Rattle.madt.proofs.EntryLaws.{Standing, entries_stand, standing_rest, sound_entry, sound_rest}
+use Rattle.std.specs.Prelude.{Option, Some, Ok, map}
+use Rattle.madt.proofs.EntryLaws.{Standing, entries_stand, standing_rest}
 use Rattle.platform.specs.declared.Record.{Record}
 use Rattle.platform.specs.Lists.ListName.{processors, io_apics, interrupt_source_overrides, nmi_sources, local_apic_nmi_lines}
 use Rattle.platform.proofs.RoomLaws.{Rooms, accepted, refused, sound, fill_refused, fill_short, fill_fits, has_room, untouched}
-use Rattle.platform.proofs.FillLaws.{Turn, fill_start, fill_end, turn, fill_room, fill_mine, fill_other}
+use Rattle.platform.proofs.FillLaws.{to_come, Turn, fill_start, fill_end, turn, fill_room, fill_mine, fill_other}
 use Rattle.platform.proofs.fill.Goals as goal
 use Rattle.platform.proofs.fill.Goals.{
   After-to_record,
@@ -40,20 +38,22 @@ returns-then-processors-m c =
 
 turned :
     (c : After-to_record) {r : Option Record} → c.to_record.result ≡ r →
-    Turn c.args.table.now (left c.loop-found.found-iterator) (left c.next.new.self) c.loop-found.processors.written c.unwrap.result r
-turned c same = turn c.in-Some.ensures.steps c.unwrap.ensures c.enabled_at.ensures c.to_record.ensures same
+    Turn c.args.table.now (to_come c.loop-e.e-iterator) (to_come c.next.new.self) c.loop-e.processors.written c.in-Some.e r
+turned c same = turn (ap (map Ok) c.in-Some.ensures.steps) refl c.enabled_at.ensures c.to_record.ensures same
 
-pub loop-found-init : goal.loop-found-init
-loop-found-init c =
+pub of-e-items-requires : goal.of-e-items-requires
+of-e-items-requires c = sound _ (accepted (sym c.interrupt_model.ensures ∙ c.in_ok-m.was)).none
+
+pub loop-e-init : goal.loop-e-init
+loop-e-init c =
     let a = accepted (sym c.interrupt_model.ensures ∙ c.in_ok-m.was) in
     let rooms =
     has_room _ _ _ _ _ a c.if-processors-m.false c.if-io_apics-m.false c.if-interrupt_source_overrides-m.false c.if-nmi_sources-m.false
     c.if-local_apic_nmi_lines-m.false
     in
-    let q = ap left c.into_iter-found-iterator.ensures.into_iter_gives ∙ c.entries-found-items.ensures in
+    let q = ap to_come c.into_iter-e-iterator.ensures.into_iter_gives ∙ c.of-e-items.ensures in
     record {
       standing = subst (Standing _) (sym q) (entries_stand _);
-      faultless = ap faulty q ∙ sound _ a.none;
       loans = elim [ processors ↦ refl | name ↦ refl ];
       filling = elim [
         | processors ↦ fill_start processors q c.new-processors.ensures.none c.new-processors.ensures.words (rooms processors)
@@ -64,22 +64,18 @@ loop-found-init c =
       ];
     }
 
-pub unwrap-requires : goal.unwrap-requires
-unwrap-requires c = sound_entry c.loop-found.invariant.faultless c.in-Some.ensures.steps
-
 pub push-requires : goal.push-requires
 push-requires c =
     let t = turned (goal.at.push-requires c).After-to_record (c.in-Some-Processor.is ∙ ap Some c.in-Some-Processor.field-0-is) in
-    fill_room t processors refl (λ _. refl) (c.loop-found.invariant.filling processors)
+    fill_room t processors refl (λ _. refl) (c.loop-e.invariant.filling processors)
 
-pub loop-found-preserved-in-Some-Processor : goal.loop-found-preserved-in-Some-Processor
-loop-found-preserved-in-Some-Processor c =
-    let t = turned (goal.at.loop-found-preserved-in-Some-Processor c).After-to_record (c.in-Some-Processor.is ∙ ap Some c.in-Some-Processor.field-0-is) in
-    let was = c.loop-found.invariant in
+pub loop-e-preserved-in-Some-Processor : goal.loop-e-preserved-in-Some-Processor
+loop-e-preserved-in-Some-Processor c =
+    let t = turned (goal.at.loop-e-preserved-in-Some-Processor c).After-to_record (c.in-Some-Processor.is ∙ ap Some c.in-Some-Processor.field-0-is) in
+    let was = c.loop-e.invariant in
     let put = c.push.ensures in
     record {
-      standing = standing_rest was.standing c.in-Some.ensures.steps;
-      faultless = sound_rest was.faultless c.in-Some.ensures.steps;
+      standing = standing_rest was.standing (ap (map Ok) c.in-Some.ensures.steps);
       loans = elim [ processors ↦ put.loan ∙ was.loans processors | name ↦ was.loans name ];
       filling = elim [
         | processors ↦ fill_mine t processors refl (λ _. refl) (was.filling processors) put.next put.front put.behind put.long
@@ -90,16 +86,15 @@ loop-found-preserved-in-Some-Processor c =
 pub push-requires-in-Some-IoApic : goal.push-requires-in-Some-IoApic
 push-requires-in-Some-IoApic c =
     let t = turned (goal.at.push-requires-in-Some-IoApic c).After-to_record (c.in-Some-IoApic.is ∙ ap Some c.in-Some-IoApic.field-0-is) in
-    fill_room t io_apics refl (λ z. cc) (c.loop-found.invariant.filling io_apics)
+    fill_room t io_apics refl (λ z. cc) (c.loop-e.invariant.filling io_apics)
 
-pub loop-found-preserved-in-Some-IoApic : goal.loop-found-preserved-in-Some-IoApic
-loop-found-preserved-in-Some-IoApic c =
-    let t = turned (goal.at.loop-found-preserved-in-Some-IoApic c).After-to_record (c.in-Some-IoApic.is ∙ ap Some c.in-Some-IoApic.field-0-is) in
-    let was = c.loop-found.invariant in
+pub loop-e-preserved-in-Some-IoApic : goal.loop-e-preserved-in-Some-IoApic
+loop-e-preserved-in-Some-IoApic c =
+    let t = turned (goal.at.loop-e-preserved-in-Some-IoApic c).After-to_record (c.in-Some-IoApic.is ∙ ap Some c.in-Some-IoApic.field-0-is) in
+    let was = c.loop-e.invariant in
     let put = c.push-in-Some-IoApic.ensures in
     record {
-      standing = standing_rest was.standing c.in-Some.ensures.steps;
-      faultless = sound_rest was.faultless c.in-Some.ensures.steps;
+      standing = standing_rest was.standing (ap (map Ok) c.in-Some.ensures.steps);
       loans = elim [ io_apics ↦ put.loan ∙ was.loans io_apics | name ↦ was.loans name ];
       filling = elim [
         | io_apics ↦ fill_mine t io_apics refl (λ z. cc) (was.filling io_apics) put.next put.front put.behind put.long
@@ -110,16 +105,15 @@ loop-found-preserved-in-Some-IoApic c =
 pub push-requires-in-Some-Override : goal.push-requires-in-Some-Override
 push-requires-in-Some-Override c =
     let t = turned (goal.at.push-requires-in-Some-Override c).After-to_record (c.in-Some-Override.is ∙ ap Some c.in-Some-Override.field-0-is) in
-    fill_room t interrupt_source_overrides refl (λ z. cc) (c.loop-found.invariant.filling interrupt_source_overrides)
+    fill_room t interrupt_source_overrides refl (λ z. cc) (c.loop-e.invariant.filling interrupt_source_overrides)
 
-pub loop-found-preserved-in-Some-Override : goal.loop-found-preserved-in-Some-Override
-loop-found-preserved-in-Some-Override c =
-    let t = turned (goal.at.loop-found-preserved-in-Some-Override c).After-to_record (c.in-Some-Override.is ∙ ap Some c.in-Some-Override.field-0-is) in
-    let was = c.loop-found.invariant in
+pub loop-e-preserved-in-Some-Override : goal.loop-e-preserved-in-Some-Override
+loop-e-preserved-in-Some-Override c =
+    let t = turned (goal.at.loop-e-preserved-in-Some-Override c).After-to_record (c.in-Some-Override.is ∙ ap Some c.in-Some-Override.field-0-is) in
+    let was = c.loop-e.invariant in
     let put = c.push-in-Some-Override.ensures in
     record {
-      standing = standing_rest was.standing c.in-Some.ensures.steps;
-      faultless = sound_rest was.faultless c.in-Some.ensures.steps;
+      standing = standing_rest was.standing (ap (map Ok) c.in-Some.ensures.steps);
       loans = elim [ interrupt_source_overrides ↦ put.loan ∙ was.loans interrupt_source_overrides | name ↦ was.loans name ];
       filling = elim [
         | interrupt_source_overrides ↦ fill_mine t interrupt_source_overrides refl (λ z. cc) (was.filling interrupt_source_overrides) put.next put.front put.behind put.long
@@ -130,16 +124,15 @@ loop-found-preserved-in-Some-Override c =
 pub push-requires-in-Some-NmiSource : goal.push-requires-in-Some-NmiSource
 push-requires-in-Some-NmiSource c =
     let t = turned (goal.at.push-requires-in-Some-NmiSource c).After-to_record (c.in-Some-NmiSource.is ∙ ap Some c.in-Some-NmiSource.field-0-is) in
-    fill_room t nmi_sources refl (λ z. cc) (c.loop-found.invariant.filling nmi_sources)
+    fill_room t nmi_sources refl (λ z. cc) (c.loop-e.invariant.filling nmi_sources)
 
-pub loop-found-preserved-in-Some-NmiSource : goal.loop-found-preserved-in-Some-NmiSource
-loop-found-preserved-in-Some-NmiSource c =
-    let t = turned (goal.at.loop-found-preserved-in-Some-NmiSource c).After-to_record (c.in-Some-NmiSource.is ∙ ap Some c.in-Some-NmiSource.field-0-is) in
-    let was = c.loop-found.invariant in
+pub loop-e-preserved-in-Some-NmiSource : goal.loop-e-preserved-in-Some-NmiSource
+loop-e-preserved-in-Some-NmiSource c =
+    let t = turned (goal.at.loop-e-preserved-in-Some-NmiSource c).After-to_record (c.in-Some-NmiSource.is ∙ ap Some c.in-Some-NmiSource.field-0-is) in
+    let was = c.loop-e.invariant in
     let put = c.push-in-Some-NmiSource.ensures in
     record {
-      standing = standing_rest was.standing c.in-Some.ensures.steps;
-      faultless = sound_rest was.faultless c.in-Some.ensures.steps;
+      standing = standing_rest was.standing (ap (map Ok) c.in-Some.ensures.steps);
       loans = elim [ nmi_sources ↦ put.loan ∙ was.loans nmi_sources | name ↦ was.loans name ];
       filling = elim [
         | nmi_sources ↦ fill_mine t nmi_sources refl (λ z. cc) (was.filling nmi_sources) put.next put.front put.behind put.long
@@ -150,16 +143,15 @@ loop-found-preserved-in-Some-NmiSource c =
 pub push-requires-in-Some-NmiLine : goal.push-requires-in-Some-NmiLine
 push-requires-in-Some-NmiLine c =
     let t = turned (goal.at.push-requires-in-Some-NmiLine c).After-to_record (c.in-Some-NmiLine.is ∙ ap Some c.in-Some-NmiLine.field-0-is) in
-    fill_room t local_apic_nmi_lines refl (λ z. cc) (c.loop-found.invariant.filling local_apic_nmi_lines)
+    fill_room t local_apic_nmi_lines refl (λ z. cc) (c.loop-e.invariant.filling local_apic_nmi_lines)
 
-pub loop-found-preserved-in-Some-NmiLine : goal.loop-found-preserved-in-Some-NmiLine
-loop-found-preserved-in-Some-NmiLine c =
-    let t = turned (goal.at.loop-found-preserved-in-Some-NmiLine c).After-to_record (c.in-Some-NmiLine.is ∙ ap Some c.in-Some-NmiLine.field-0-is) in
-    let was = c.loop-found.invariant in
+pub loop-e-preserved-in-Some-NmiLine : goal.loop-e-preserved-in-Some-NmiLine
+loop-e-preserved-in-Some-NmiLine c =
+    let t = turned (goal.at.loop-e-preserved-in-Some-NmiLine c).After-to_record (c.in-Some-NmiLine.is ∙ ap Some c.in-Some-NmiLine.field-0-is) in
+    let was = c.loop-e.invariant in
     let put = c.push-in-Some-NmiLine.ensures in
     record {
-      standing = standing_rest was.standing c.in-Some.ensures.steps;
-      faultless = sound_rest was.faultless c.in-Some.ensures.steps;
+      standing = standing_rest was.standing (ap (map Ok) c.in-Some.ensures.steps);
       loans = elim [ local_apic_nmi_lines ↦ put.loan ∙ was.loans local_apic_nmi_lines | name ↦ was.loans name ];
       filling = elim [
         | local_apic_nmi_lines ↦ fill_mine t local_apic_nmi_lines refl (λ z. cc) (was.filling local_apic_nmi_lines) put.next put.front put.behind put.long
@@ -167,13 +159,12 @@ loop-found-preserved-in-Some-NmiLine c =
       ];
     }
 
-pub loop-found-preserved : goal.loop-found-preserved
-loop-found-preserved c =
-    let t = turned (goal.at.loop-found-preserved c).After-to_record c.in-None-to_record.is in
-    let was = c.loop-found.invariant in
+pub loop-e-preserved : goal.loop-e-preserved
+loop-e-preserved c =
+    let t = turned (goal.at.loop-e-preserved c).After-to_record c.in-None-to_record.is in
+    let was = c.loop-e.invariant in
     record {
-      standing = standing_rest was.standing c.in-Some.ensures.steps;
-      faultless = sound_rest was.faultless c.in-Some.ensures.steps;
+      standing = standing_rest was.standing (ap (map Ok) c.in-Some.ensures.steps);
       loans = was.loans;
       filling = λ name. fill_other t name refl (was.filling name);
     }
@@ -185,9 +176,9 @@ returns c =
     has_room _ _ _ _ _ a c.if-processors-m.false c.if-io_apics-m.false c.if-interrupt_source_overrides-m.false c.if-nmi_sources-m.false
     c.if-local_apic_nmi_lines-m.false
     in
-    let loans = c.loop-found.invariant.loans in
-    let filling = c.loop-found.invariant.filling in
-    let none = c.in-None.ensures.steps.0 in
+    let loans = c.loop-e.invariant.loans in
+    let filling = c.loop-e.invariant.filling in
+    let none = ap (map Ok) c.in-None.ensures.steps.0 in
     record {
       answer = fill_fits _ _ _ _ _ _ a.none rooms;
       processors = let loan = loans processors in let all = fill_end (filling processors) none in search rules;

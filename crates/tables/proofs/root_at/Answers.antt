@@ -10,7 +10,7 @@ returns-in_err-check_root c = search (rules, root_refused)
 
 pub stated_length-len-requires : goal.stated_length-len-requires
 stated_length-len-requires c =
-    let valid = valid_root_sums _ c.view-view.result.now (sym c.check_root.ensures ∙ c.in_ok-check_root.was) in
+    let valid = valid_root_sums _ _ (sym c.check_root.ensures ∙ c.in_ok-check_root.was) in
     omega arith
 
 pub returns : goal.returns

@@ -5,9 +5,9 @@ use Rattle.field.specs.Walk.{spans, spans_of, meaning}
 use Rattle.field.proofs.TextLaws.{end_by, begin_from, in_row, in_first_row, in_no_row}
 use Rattle.field.proofs.utf8.begin.Goals as goal
 
-pub returns-in-0-to-127 : goal.returns-in-0-to-127
+pub returns-then-b-lt128 : goal.returns-then-b-lt128
 unfolding meaning spans_of spans
-returns-in-0-to-127 c = ap meaning c.expect-in-0-to-127.ensures ∙ in_first_row c.args.b (omega arith)
+returns-then-b-lt128 c = ap meaning c.expect.ensures ∙ in_first_row c.args.b (omega arith)
 
 pub returns-in-194-to-223 : goal.returns-in-194-to-223
 unfolding meaning spans_of spans table end_by
@@ -15,7 +15,7 @@ returns-in-194-to-223 c = ap meaning c.expect-in-194-to-223.ensures ∙ in_row 1
 
 pub returns-in-224 : goal.returns-in-224
 unfolding meaning spans_of spans table end_by
-returns-in-224 c = ap meaning c.expect.ensures ∙ in_row 2 0xdf c.args.b refl tt (omega arith) (omega arith) (omega arith)
+returns-in-224 c = ap meaning c.expect-in-224.ensures ∙ in_row 2 0xdf c.args.b refl tt (omega arith) (omega arith) (omega arith)
 
 pub returns-in-225-to-236 : goal.returns-in-225-to-236
 unfolding meaning spans_of spans table end_by
