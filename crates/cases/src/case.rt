@@ -59,7 +59,7 @@ impl<'a> Stored<'a> {
 
 // What a question is asked about: the bytes of an image with its patches, its ranges, the question's number and its arguments. And
 // the answer that is wanted. The number stays one: each program has questions of its own. The image and its ranges stand in lists
-// that last for the whole of a file, so a question takes no memory of its own. The other numbers stay in the file, eight bytes each,
+// that last for the whole of a file, so a case takes no memory of its own. The other numbers stay in the file, eight bytes each,
 // and `number` reads those that a program asks for.
 #[derive(Clone, Copy)]
 pub struct Case<'a> {

@@ -82,7 +82,7 @@ fn show(rt: &impl Print, question: Question, outcome: Outcome) -> io::Result<()>
 }
 
 // Takes the records of a file in order, up to its end. The ranges of an image are read once for all of its questions, when the first
-// of them comes, since some images have none.
+// of them comes, since some images have no question.
 fn replay<R: Print + AllocGlobal>(
     rt: &R,
     questions: &impl Questions,
