@@ -1,7 +1,5 @@
 -- How questions are counted.
-use Rattle.std.specs.Prelude.{◌≡◌, ◌≢◌, ◌+◌, ◌-◌, ◌^◌, ℕ, Bool, if◌then◌else◌, min, unwrap_or}
-use Rattle.std.specs.Ordering.{nat_cmp}
-use Rattle.std.specs.BTreeMap.{BTreeMap, get}
+use Rattle.std.specs.Prelude.{◌≡◌, ◌≢◌, ◌+◌, ◌-◌, ◌^◌, ℕ, Bool, List, if◌then◌else◌, min, option_map, slice_get}
 use Rattle.cases.specs.declared.tally.Count.{Count}
 
 -- One question more, and one that differs more unless its answer is the same, as far as the numbers go.
@@ -12,10 +10,7 @@ counted c same =
       differed = min (c.differed + (if same then 0 else 1)) (2 ^ 64 - 1);
     }
 
-abbrev pub count_of : BTreeMap ℕ Count → ℕ → Count
-count_of counts id = unwrap_or (get nat_cmp counts id) (record { asked = 0; differed = 0 })
-
 -- The count of the question goes up, and no other changes.
-pub record Notes (old new : BTreeMap ℕ Count) (id : ℕ) (same : Bool) : Type 0 where
-  pub noted : count_of new id ≡ counted (count_of old id) same
-  pub others : (other : ℕ) → other ≢ id → count_of new other ≡ count_of old other
+pub record Notes (old new : List Count) (id : ℕ) (same : Bool) : Type 0 where
+  pub noted : slice_get new id ≡ option_map (λ c. counted c same) (slice_get old id)
+  pub others : (other : ℕ) → other ≢ id → slice_get new other ≡ slice_get old other

@@ -1,11 +1,10 @@
 // A question of a stored file as a program is asked it, and how an answer stands to the stored one.
-ghost use Rattle.std.specs.Prelude.{◌≡◌, ◌↔◌, ◌<◌, ◌%◌, ◌^◌, All, IfOk, IfSome, IsSome, IsTrue, MatchResult, OnOk, OnSome, length, map, fold};
+ghost use Rattle.std.specs.Prelude.{◌≡◌, ◌↔◌, ◌<◌, ◌≤◌, ◌%◌, ◌^◌, All, IfSome, IsSome, IsTrue, MatchResult, OnSome, length, map, fold};
 ghost use Rattle.std.specs.Int.{from_le_bytes, w64};
 ghost use Rattle.cases.specs.Case.{IsOf, offset_of, with_patch};
 ghost use Rattle.cases.specs.Values.{values_of};
 
 use crate::record::{Image, Question};
-use std::alloc::AllocError;
 
 // The stored answer as the file has it: its number, 0 where it has values, and its values. They stay in the file, eight bytes each,
 // since most are only compared.
@@ -58,16 +57,16 @@ impl<'a> Stored<'a> {
 }
 
 // What a question is asked about: the bytes of an image with its patches, its ranges, the question's number and its arguments. And
-// the answer that is wanted. The number stays one: each program has questions of its own. The image and its ranges stand in lists
-// that last for the whole of a file, so a case takes no memory of its own. The other numbers stay in the file, eight bytes each,
-// and `number` reads those that a program asks for.
+// the answer that is wanted. The number stays one: each program has questions of its own. The image stands in a room that lasts for
+// the whole of a file, so a case takes no memory of its own. The other numbers stay in the file, eight bytes each, and `number` and
+// `read_numbers` read those that a program asks for.
 #[derive(Clone, Copy)]
-pub struct Case<'a> {
-    pub image: &'a [u8],
-    pub ranges: &'a [u64],
+pub struct Case<'i, 'f> {
+    pub image: &'i [u8],
+    pub ranges: &'f [[u8; 8]],
     pub id: u32,
-    pub arguments: &'a [[u8; 8]],
-    pub stored: Stored<'a>,
+    pub arguments: &'f [[u8; 8]],
+    pub stored: Stored<'f>,
 }
 
 // The low four bytes of a number. The file has eight bytes for every number, and some mean one of four.
@@ -84,12 +83,19 @@ pub fn number(bytes: &[u8; 8]) -> u64
     u64::from_le_bytes(*bytes)
 }
 
-// Reads the numbers that stand in a file into a list, in place of what it had, and takes memory only where its room is too small.
-pub(crate) fn read_numbers(list: &mut Vec<u64>, bytes: &[[u8; 8]]) -> Result<(), AllocError>
-    ensures { OnOk result (list.new.items ≡ map (from_le_bytes w64) bytes.now) }
+// Reads the numbers that stand in a file to the front of a room, in place of what stood there. None where the room is too small.
+pub fn read_numbers<'a>(room: &'a mut [u64], bytes: &[[u8; 8]]) -> Option<&'a [u64]>
+    ensures numbers { IfSome result (λ read. read.now ≡ map (from_le_bytes w64) bytes.now) }
+    ensures fits { IsSome result ↔ (length bytes.now ≤ length room.old) }
 {
-    list.clear();
-    list.extend(bytes.iter().map(number))
+    if room.len() < bytes.len() {
+        return None;
+    }
+    let read = &mut room[..bytes.len()];
+    for (i, place) in read.iter_mut().enumerate() {
+        *place = number(&bytes[i]);
+    }
+    Some(read)
 }
 
 // Changes the byte that a patch names, by its offset and its value in four bytes each. None where the offset is outside. A test and
@@ -118,33 +124,28 @@ fn patch_all(image: &mut [u8], patches: &[[u8; 8]]) -> Option<()>
     Some(())
 }
 
-impl<'a> Case<'a> {
-    // Every question has its image laid out anew, so no patch outlasts its question. The list that it is laid out in is lent, since
-    // that of the question before has the room already. None where the patches are not for the image.
-    pub(crate) fn new(
-        laid_out: &'a mut Vec<u8>,
-        image: Image<'a>,
-        ranges: &'a [u64],
-        question: Question<'a>,
-    ) -> Result<Option<Self>, AllocError>
-        requires { ranges.now ≡ map (from_le_bytes w64) image.ranges.now }
-        ensures value { IfOk result (λ made. IfSome made (IsOf image.entry question.entry)) }
-        ensures inside { IfOk result (λ made. IsSome made ↔ All (λ p. offset_of p < length image.entry.bytes.now) question.entry.patches.now) }
+impl<'i, 'f> Case<'i, 'f> {
+    // Every question has its image laid out anew, so no patch outlasts its question. The room that it is laid out in is lent. None
+    // where the room is too small for the image, or the patches are not for it.
+    pub(crate) fn new(room: &'i mut [u8], image: Image<'f>, question: Question<'f>) -> Option<Self>
+        ensures value { IfSome result (IsOf image.entry question.entry) }
+        ensures inside { IsSome result ↔ ((length image.entry.bytes.now ≤ length room.old) × All (λ p. offset_of p < length image.entry.bytes.now) question.entry.patches.now) }
     {
-        laid_out.clear();
-        laid_out.extend_from_slice(image.bytes)?;
-        if patch_all(laid_out, question.patches).is_none() {
-            return Ok(None);
+        if room.len() < image.bytes.len() {
+            return None;
         }
-        Ok(Some(Case {
+        let laid_out = &mut room[..image.bytes.len()];
+        laid_out.copy_from_slice(image.bytes);
+        patch_all(laid_out, question.patches)?;
+        Some(Case {
             image: laid_out,
-            ranges,
+            ranges: image.ranges,
             id: question.id,
             arguments: question.arguments,
             stored: Stored {
                 number: question.answer,
                 values: question.values,
             },
-        }))
+        })
     }
 }

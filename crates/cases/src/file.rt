@@ -1,9 +1,14 @@
-// Reading a stored file.
+// Reading a stored file, into a room that its caller has.
 ghost use Rattle.std.specs.Prelude.{◌≤◌, ◌<◌, length, take, IfOk};
 ghost use Rattle.std.specs.Io.KnownBytes.{Consumes, IsAtEnd};
 
 use std::io;
 use std::io::Read;
+
+// Room for so many bytes. A parameter says how many, since the prover doesn't follow a program that writes a mebibyte of zeros out.
+pub fn room<const N: usize>() -> [u8; N] {
+    [0; N]
+}
 
 // Reads until the buffer is full or the file ends, and answers how many bytes of the file stand at the buffer's front. It is promised
 // of a lent buffer (docs/PROMISES.md), and a longer file is cut off there.

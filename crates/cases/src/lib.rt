@@ -6,4 +6,4 @@ pub mod case;
 pub mod file;
 mod record;
 pub mod replay;
-mod tally;
+pub mod tally;

@@ -1,29 +1,22 @@
 // Asks a program's questions of the images of stored files, and compares each answer with the stored one.
-ghost use Rattle.std.specs.Prelude.{◌≡◌, IfSome, map};
-ghost use Rattle.std.specs.Int.{from_le_bytes, w64};
-
-use crate::case::{Case, Outcome, read_numbers};
+use crate::case::{Case, Outcome};
 use crate::file::read_full;
 use crate::record::{Image, Question, Reader, Record};
-use crate::tally::Tally;
-use std::alloc::{AllocError, Global};
+use crate::tally::{Count, Tally};
 use std::io::Read;
 use std::rt::Files;
 use std::{fs, io};
 
 // What a program asks.
 pub trait Questions {
-    // Room for more than a stored file has. A file that fills it up may be cut off, and then its end is missing.
-    const ROOM: usize;
-
-    // Room for the bytes of an image. A question about a larger one can't be asked, which is known before the image is laid out.
-    const IMAGE_ROOM: usize;
-
     // What the tally of each question is called, by the question's number in the file.
     const LABELS: &'static [(u32, &'static str)];
 
+    // Writes the line of a question's tally.
+    fn print(rt: &impl Print, id: u32, label: &str, count: Count) -> io::Result<()>;
+
     // Asks the question of a case. None where the program has no such question, or can't ask it about such a case.
-    fn ask(&self, alloc: Global, case: &Case) -> Result<Option<Outcome>, AllocError>;
+    fn ask(&mut self, case: &Case) -> Option<Outcome>;
 }
 
 // Why no tallies of a file are written: no record can be read at a place, or the system fails.
@@ -39,34 +32,14 @@ impl From<io::Error> for Stop {
     }
 }
 
-impl From<AllocError> for Stop {
-    fn from(error: AllocError) -> Self {
-        Stop::Failed(io::Error::from(error))
-    }
-}
-
-// The outcome of a question about the image before it, whose ranges are read already. None where there is no image, or where the
-// question can't be asked about it.
-fn ask<'a, Q: Questions>(
-    alloc: Global,
-    questions: &Q,
-    laid_out: &'a mut Vec<u8>,
-    image: Option<Image<'a>>,
-    ranges: &'a [u64],
-    question: Question<'a>,
-) -> Result<Option<Outcome>, AllocError>
-    requires { IfSome image (λ i. ranges.now ≡ map (from_le_bytes w64) i.ranges.now) }
-{
-    let Some(image) = image else {
-        return Ok(None);
-    };
-    if Q::IMAGE_ROOM < image.bytes.len() {
-        return Ok(None);
-    }
-    match Case::new(laid_out, image, ranges, question)? {
-        Some(case) => questions.ask(alloc, &case),
-        None => Ok(None),
-    }
+// The outcome of a question about the image before it. None where there is no image, or where the question can't be asked about it.
+fn ask(
+    questions: &mut impl Questions,
+    room: &mut [u8],
+    image: Option<Image>,
+    question: Question,
+) -> Option<Outcome> {
+    questions.ask(&Case::new(room, image?, question)?)
 }
 
 // Writes a line about an answer that differs.
@@ -81,37 +54,25 @@ fn show(rt: &impl Print, question: Question, outcome: Outcome) -> io::Result<()>
     println!(rt)
 }
 
-// Takes the records of a file in order, up to its end. The ranges of an image are read once for all of its questions, when the first
-// of them comes, since some images have no question.
-fn replay<R: Print + AllocGlobal>(
-    rt: &R,
-    questions: &impl Questions,
+// Takes the records of a file in order, up to its end.
+fn replay(
+    rt: &impl Print,
+    questions: &mut impl Questions,
     file: &[u8],
+    image_room: &mut [u8],
 ) -> Result<Tally, Stop> {
-    let mut tally = Tally::new(rt.alloc());
-    let mut unread = None;
+    let mut tally = Tally::new();
     let mut image = None;
-    let mut ranges = Vec::new(rt.alloc());
-    let mut laid_out = Vec::new(rt.alloc());
     let mut reader = Reader::new(file);
     for record in reader.by_ref() {
         match record {
-            Record::Image(next) => unread = Some(next),
+            Record::Image(next) => image = Some(next),
             Record::Question(question) => {
-                if let Some(next) = unread.take() {
-                    read_numbers(&mut ranges, next.ranges)?;
-                    image = Some(next);
-                }
-                let asked = ask(
-                    rt.alloc(),
-                    questions,
-                    &mut laid_out,
-                    image,
-                    &ranges,
-                    question,
-                )?;
-                let outcome = asked.ok_or(Stop::Unreadable(question.at))?;
-                if tally.note(question.id, outcome.same)? {
+                let outcome = ask(questions, image_room, image, question).ok_or(Stop::Unreadable(
+                    question.at,
+                ))?;
+                let noted = tally.note(question.id, outcome.same);
+                if noted.ok_or(Stop::Unreadable(question.at))? {
                     show(rt, question, outcome)?;
                 }
             }
@@ -124,40 +85,54 @@ fn replay<R: Print + AllocGlobal>(
     }
 }
 
-fn replay_opened<R: Print + AllocGlobal, Q: Questions>(
-    rt: &R,
-    questions: &Q,
+// The line of each question, and then the sums.
+fn print_tallies<Q: Questions>(rt: &impl Print, tally: Tally) -> io::Result<()> {
+    for (id, label) in Q::LABELS {
+        Q::print(rt, *id, label, tally.of_question(*id))?;
+    }
+    tally.print_sums(rt)
+}
+
+fn replay_opened<Q: Questions>(
+    rt: &impl Print,
+    questions: &mut Q,
     mut file: impl Read + Drop,
+    file_room: &mut [u8],
+    image_room: &mut [u8],
 ) -> io::Result<()> {
-    let mut bytes = vec![in rt.alloc(); 0u8; Q::ROOM]?;
-    let length = read_full(&mut file, &mut bytes)?;
-    match replay(rt, questions, &bytes[..length]) {
-        Ok(tally) => tally.print(rt, Q::LABELS),
+    let length = read_full(&mut file, file_room)?;
+    match replay(rt, questions, &file_room[..length], image_room) {
+        Ok(tally) => print_tallies::<Q>(rt, tally),
         Err(Stop::Unreadable(at)) => println!(rt; "no record can be read at {at}"),
         Err(Stop::Failed(error)) => Err(error),
     }
 }
 
 // Replays a file, or says that it can't be opened.
-fn replay_named<R: Files + Print + Eprint + AllocGlobal>(
-    rt: &R,
-    questions: &impl Questions,
+fn replay_named(
+    rt: &(impl Files + Print + Eprint),
+    questions: &mut impl Questions,
     name: &str,
+    file_room: &mut [u8],
+    image_room: &mut [u8],
 ) -> io::Result<()> {
     match fs::open(rt, name) {
-        Ok(file) => replay_opened(rt, questions, file),
+        Ok(file) => replay_opened(rt, questions, file, file_room, image_room),
         Err(error) => eprintln!(rt; "{name}: {error}"),
     }
 }
 
-// Replays the file of that name, and then the answers of the comparison with the crate. What a file gives and what is written no
-// clause can say.
-pub fn replay_files<R: Files + Print + Eprint + AllocGlobal>(
-    rt: &R,
-    questions: &impl Questions,
+// Replays the file of that name, and then the answers of the comparison with the crate. The rooms are lent, so that nothing here asks
+// for memory. A file that fills its room up may be cut off, and then its end is missing; a question about an image that is larger
+// than its room can't be asked. What a file gives and what is written no clause can say.
+pub fn replay_files(
+    rt: &(impl Files + Print + Eprint),
+    questions: &mut impl Questions,
     name: &str,
+    file_room: &mut [u8],
+    image_room: &mut [u8],
 ) -> io::Result<()> {
-    replay_named(rt, questions, name)?;
+    replay_named(rt, questions, name, file_room, image_room)?;
     println!(rt; "answers of the comparison with the crate:")?;
-    replay_named(rt, questions, "oracle")
+    replay_named(rt, questions, "oracle", file_room, image_room)
 }

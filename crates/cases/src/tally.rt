@@ -1,13 +1,14 @@
 // How many questions were asked and how many answers differed, of each question and of all.
-ghost use Rattle.std.specs.Prelude.{◌≡◌, ◌<◌, ◌↔◌, false, IfOk, IsTrue, OnOk};
+ghost use Rattle.std.specs.Prelude.{◌≡◌, ◌<◌, ◌↔◌, false, IfSome, IsSome, IsTrue, OnSome, slice_get};
 ghost use Rattle.cases.specs.Tally.{Notes, counted};
 
-use std::alloc::{AllocError, Global};
-use std::collections::BTreeMap;
 use std::{fmt, io};
 
 // So many differences are shown; the others are counted.
 const SHOWN: u64 = 10;
+
+// The numbers of the questions lie below this one.
+const NUMBERS: usize = 64;
 
 #[derive(Clone, Copy, Default)]
 pub struct Count {
@@ -31,41 +32,48 @@ impl fmt::Display for Count {
     }
 }
 
-#[derive(Drop)]
+// The counts stand at the questions' numbers.
+#[derive(Clone, Copy)]
 pub struct Tally {
     all: Count,
-    by_question: BTreeMap<u32, Count>,
+    by_question: [Count; NUMBERS],
 }
 
 impl Tally {
-    pub fn new(alloc: Global) -> Self {
+    pub fn new() -> Self {
         Tally {
             all: Count::default(),
-            by_question: BTreeMap::new(alloc),
+            by_question: [Count::default(); NUMBERS],
         }
     }
 
-    // Counts a question, and says whether its answer is one of the first that differ.
-    pub fn note(&mut self, id: u32, same: bool) -> Result<bool, AllocError>
+    // Counts a question, and says whether its answer is one of the first that differ. None where no question has this number.
+    pub fn note(&mut self, id: u32, same: bool) -> Option<bool>
         ensures all { self.new.all ≡ counted self.old.all same }
-        ensures question { OnOk result (Notes self.old.by_question self.new.by_question id same) }
-        ensures shown { IfOk result (λ shown. IsTrue shown ↔ ((same ≡ false) × (self.old.all.differed < SHOWN))) }
+        ensures question { OnSome result (Notes self.old.by_question self.new.by_question id same) }
+        ensures shown { IfSome result (λ shown. IsTrue shown ↔ ((same ≡ false) × (self.old.all.differed < SHOWN))) }
+        ensures counts { IsSome result ↔ (id < NUMBERS) }
     {
         let shown = !same && self.all.differed < SHOWN;
         self.all.note(same);
-        self.by_question
-            .entry(id)?
-            .or_insert(Count::default())
-            .note(same);
-        Ok(shown)
+        if NUMBERS <= id as usize {
+            return None;
+        }
+        self.by_question[id as usize].note(same);
+        Some(shown)
     }
 
-    // The line of each question, and then the sums.
-    pub fn print(&self, rt: &impl Print, labels: &[(u32, &str)]) -> io::Result<()> {
-        for (id, label) in labels {
-            let count = self.by_question.get(id).copied().unwrap_or_default();
-            println!(rt; "{label}: {count}")?;
-        }
+    // The count of a question, and no answers where no question has this number.
+    pub fn of_question(&self, id: u32) -> Count
+        ensures { IfSome (slice_get self.now.by_question id) (λ count. result ≡ count) }
+    {
+        self.by_question
+            .get(id as usize)
+            .copied()
+            .unwrap_or_default()
+    }
+
+    pub fn print_sums(&self, rt: &impl Print) -> io::Result<()> {
         println!(rt; "{} cases, {} differ", self.all.asked, self.all.differed)
     }
 }

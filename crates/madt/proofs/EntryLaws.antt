@@ -194,6 +194,12 @@ module _ {s : List ℕ} {items rest : List Item} where
       go (fault others) = others
       go (entry here others) = others
 
+  pub standing_entry : {e : MadtEntry} → Standing s items → items ≡ Ok e ∷ rest → Stands s e.at e
+  standing_entry stand q = go (rw q at stand)
+    where
+      go : {e : MadtEntry} {rest : List Item} → Standing s (Ok e ∷ rest) → Stands s e.at e
+      go (entry here others) = here
+
   pub standing_fault : {r : Refusal} → Standing s items → items ≡ Err r ∷ rest → r ≡ InconsistentEntry
   standing_fault {r} stand q = go (rw q at stand)
     where

@@ -1,10 +1,10 @@
 -- Laws about places and views: the theorems of specs/Statements, and what the crates above use.
-use Rattle.std.proofs.Common.{ℕ, zero, suc, ◌+◌, ◌-◌, ◌≤◌, ◌<◌, min, ◌≡◌, refl, ap, sym, ◌∙◌, List, [], ◌∷◌, ◌++◌, Bool, true, false, ◌⊎◌, ⊎_elim, arith, leb, leb-true, leb-false, map, length, get_or, take, drop, set, length-take, length-take-le, length-drop, take-take, take_all, get_or-drop, ext_get_or, drop-set-lt}
+use Rattle.std.proofs.Common.{ℕ, zero, suc, ◌+◌, ◌-◌, ◌≤◌, ◌<◌, min, ◌≡◌, refl, ap, sym, ◌∙◌, List, [], ◌∷◌, ◌++◌, Bool, true, false, ◌⊎◌, inl, inr, ⊎_elim, arith, leb-true, leb-false, map, length, get_or, take, drop, set, length-take, length-take-le, length-drop, take-take, take_all, get_or-drop, ext_get_or, drop-set-lt}
 use Rattle.std.specs.Prelude.{Option, Some, None}
 use Rattle.std.proofs.lemmas.Option.{same_Some, none-some, slice_get-get_or}
 use Rattle.std.proofs.lemmas.List.{get_or-take}
 use Rattle.std.proofs.lemmas.List.Folds.{list_all-append}
-use native.Mathlib.Decide.{dec_le}
+use native.Mathlib.Decide.{dec_le, dec_lt}
 use lib.Seq.{drop-set-add, take-set-le}
 use Rattle.field.specs.First.{when}
 use Rattle.field.specs.Part.{part}
@@ -16,11 +16,11 @@ use Rattle.std.proofs.lemmas.List.Sorted.{IsPartitionedBy-leb}
 use Rattle.std.specs.Option.{MatchOption, IfSome, is_some}
 use Rattle.std.proofs.lemmas.Bool.{and_parts}
 use Rattle.memory.specs.Ranges.{range_of, ranges_of, inside, ordered, right}
-use Rattle.memory.specs.Places.{holds, place_in, place_of, bytes_at, view_of}
+use Rattle.memory.specs.Places.{holds, place_in, place_of, starts_up_to, bytes_at, view_of, Unmapped}
 use Rattle.memory.specs.Statements.{OneHolder, InsideTheSlice, InsideOneRange, ReadableIfHeld, OtherBytesStay}
 use Rattle.memory.specs.declared.Range.{Range}
 use Rattle.memory.specs.declared.Place.{Place}
-use Rattle.memory.proofs.RangeLaws.{starts_ascend, right_inside, right_ordered, inside_slice, follows_end, holds_start, holds_len, holds_yes, holds_above, holds_below}
+use Rattle.memory.proofs.RangeLaws.{starts_ascend, right_inside, right_ordered, inside_slice, follows_end, holds_start, holds_len, holds_yes, holds_no, holds_above, holds_below}
 
 -- A place that was found is that in a range of the list that holds the address.
 pub record Found (rs : List Range) (p : ℕ) (place : Place) : Type 0 where
@@ -123,16 +123,32 @@ one_holder size words before after r p e listed h =
     ∙ one_holder_in before after r p (ap ordered (sym listed) ∙ right_ordered size words e) h
 
 -- Where each range starts above the address, none holds it.
-none_above : (l : List (List ℕ)) (p : ℕ) → AllWithin (λ n. leb (range_of n).start p ≡ false) l 0 (length l) → place_of (map range_of l) p ≡ None
+none_above : (l : List (List ℕ)) (p : ℕ) → AllWithin (λ n. starts_up_to p n ≡ false) l 0 (length l) → place_of (map range_of l) p ≡ None
 unfolding place_of
 none_above [] p h = refl
 none_above (n ∷ l) p h =
     when_pass _ _ _ (holds_above (range_of n) p (leb-false _ p (h 0 [] (omega arith) (omega arith))))
     ∙ none_above l p (λ k d low high. h (suc k) d (omega arith) (omega arith))
 
+-- Where no range holds an address, none holds a later one, where each starts at the former or below, or above the latter.
+none_up_to : (l : List (List ℕ)) (p q : ℕ) → p ≤ q
+    → ((k : ℕ) (d : List ℕ) → k < length l → ((range_of (get_or l k d)).start ≤ p) ⊎ (q < (range_of (get_or l k d)).start))
+    → place_of (map range_of l) p ≡ None → place_of (map range_of l) q ≡ None
+unfolding place_of
+none_up_to [] p q le apart none = refl
+none_up_to (n ∷ l) p q le apart none = go (holds (range_of n) p) refl (none_up_to l p q le (λ k d b. apart (suc k) d (omega arith)))
+  where
+    go : (t : Bool) → holds (range_of n) p ≡ t → (place_of (map range_of l) p ≡ None → place_of (map range_of l) q ≡ None)
+        → place_of (map range_of (n ∷ l)) q ≡ None
+    go true h later = absurd (none-some _ (sym none ∙ when_hit _ _ _ h))
+    go false h later =
+        when_pass _ _ _
+        (⊎_elim (λ low. holds_below (range_of n) q (omega (arith, holds_no (range_of n) p low h))) (λ high. holds_above (range_of n) q high) (apart 0 [] (omega arith)))
+        ∙ later (sym (when_pass _ _ _ h) ∙ none)
+
 -- Of the ranges of an ordered list that start at the address or below, the last decides.
 last_decides : (l : List (List ℕ)) (i p : ℕ) → ordered (map range_of l) ≡ true → i < length l
-    → AllWithin (λ n. leb (range_of n).start p ≡ true) l 0 (suc i) → AllWithin (λ n. leb (range_of n).start p ≡ false) l (suc i) (length l)
+    → AllWithin (λ n. starts_up_to p n ≡ true) l 0 (suc i) → AllWithin (λ n. starts_up_to p n ≡ false) l (suc i) (length l)
     → place_of (map range_of l) p ≡ when (holds (range_of (get_or l i [])) p) (Some (place_in (range_of (get_or l i [])) p)) None
 unfolding place_of ordered
 last_decides [] i p e b below above = absurd (omega arith)
@@ -167,7 +183,7 @@ module _ (size : ℕ) (words : List ℕ) (p : ℕ) (l : List (List ℕ)) (e : ri
       MatchOption last (place_of (ranges_of words) p ≡ None) (λ n.
       (inside size (range_of n) ≡ true) × (place_of (ranges_of words) p ≡ when (holds (range_of n) p) (Some (place_in (range_of n) p)) None))
 
-  last_in_front : (i : ℕ) → i ≤ length l → IsPartitionPoint (λ n. leb (range_of n).start p ≡ true) (λ n. leb (range_of n).start p ≡ false) l i
+  last_in_front : (i : ℕ) → i ≤ length l → IsPartitionPoint (λ n. starts_up_to p n ≡ true) (λ n. starts_up_to p n ≡ false) l i
       → Decides (slice_get (take i l) (length (take i l) - 1))
   last_in_front zero b point = ap (λ (rs : List Range). place_of rs p) (sym same) ∙ none_above l p point.1
   last_in_front (suc i) b point =
@@ -182,11 +198,28 @@ module _ (size : ℕ) (words : List ℕ) (p : ℕ) (l : List (List ℕ)) (e : ri
       (inside_at size l i [] within (omega arith), ap (λ (rs : List Range). place_of rs p) (sym same) ∙ last_decides l i p order (omega arith) point.0 point.1)
 
   pub last_of_part : (i : ℕ) → i ≤ length l
-      → (IsPartitionedBy (λ n. leb (range_of n).start p) l → IsPartitionPoint (λ n. leb (range_of n).start p ≡ true) (λ n. leb (range_of n).start p ≡ false) l i)
+      → (IsPartitionedBy (starts_up_to p) l → IsPartitionPoint (λ n. starts_up_to p n ≡ true) (λ n. starts_up_to p n ≡ false) l i)
       → Decides (slice_get (take i l) (length (take i l) - 1))
   last_of_part i b parted =
       let order = ap ordered same ∙ right_ordered size words e in
       last_in_front i b (parted (IsPartitionedBy-leb (λ (n : List ℕ). (range_of n).start) l p (starts_ascend l order)))
+
+  -- Where no range holds the address, none holds a later one up to where the next range starts.
+  pub next_of_part : (i : ℕ) → i ≤ length l
+      → (IsPartitionedBy (starts_up_to p) l → IsPartitionPoint (λ n. starts_up_to p n ≡ true) (λ n. starts_up_to p n ≡ false) l i)
+      → place_of (ranges_of words) p ≡ None → (s : ℕ) → ((d : List ℕ) → i < length l → s ≤ (range_of (get_or l i d)).start) → Unmapped words p s
+  next_of_part i b parted none s next q le below =
+      let order = ap ordered same ∙ right_ordered size words e in
+      let ascend = starts_ascend l order in
+      let point = parted (IsPartitionedBy-leb (λ (n : List ℕ). (range_of n).start) l p ascend) in
+      ap (λ (rs : List Range). place_of rs q) (sym same)
+      ∙ none_up_to l p q le
+      (λ k d h.
+      elim (dec_lt k i) [
+        | yes early ↦ inl (leb-true _ p (point.0 k d (omega arith) early))
+        | no late ↦ inr (omega (arith, next d (omega arith), ascend i k d (omega arith) h))
+      ])
+      (ap (λ (rs : List Range). place_of rs p) same ∙ none)
 
 -- The view at a place is that part of the slice.
 pub view_at : (image words : List ℕ) (p : ℕ) (place : Place) → place_of (ranges_of words) p ≡ Some place
@@ -203,6 +236,15 @@ pub view_room : (image words : List ℕ) (p : ℕ) (place : Place) → right (le
     → length (view_of image words p) ≡ place.room
 view_room image words p place e q =
     ap length (view_at image words p place q) ∙ part_length image place.offset place.room (inside_the_slice (length image) words p place e q)
+
+-- And where the view is empty no range holds the address, since each place has room.
+pub view_empty : (image words : List ℕ) (p : ℕ) → right (length image) words ≡ true → length (view_of image words p) ≡ 0
+    → place_of (ranges_of words) p ≡ None
+view_empty image words p e empty = go (place_of (ranges_of words) p) refl
+  where
+    go : (found : Option Place) → place_of (ranges_of words) p ≡ found → found ≡ None
+    go None q = refl
+    go (Some place) q = absurd (omega (arith, view_room image words p place e q, (inside_one_range words p place q).some, empty))
 
 pub readable_if_held : ReadableIfHeld
 readable_if_held image words before after r p n e listed h k =

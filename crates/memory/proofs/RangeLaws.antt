@@ -1,5 +1,6 @@
 -- Laws about the list of ranges: how the flat list is read, and what a right list gives.
-use Rattle.std.proofs.Common.{ℕ, zero, suc, ◌+◌, ◌-◌, ◌/◌, ◌%◌, ◌≤◌, ◌<◌, ◌≡◌, refl, List, [], ◌∷◌, map, true, false, arith, le-leb, lt-ltb, le-ltb, leb-true, ltb-true, length, get_or, ne_eqb, eq-eqb, ap, sym, Bool, add-one}
+use Rattle.std.proofs.Common.{ℕ, zero, suc, ◌+◌, ◌-◌, ◌/◌, ◌%◌, ◌≤◌, ◌<◌, ◌≡◌, refl, List, [], ◌∷◌, map, true, false, arith, le-leb, lt-ltb, le-ltb, leb-true, ltb-true, length, get_or, ne_eqb, eq-eqb, ap, sym, ◌∙◌, true≢false, Bool, add-one}
+use native.Mathlib.Decide.{dec_lt}
 use Rattle.std.specs.List.{list_all, IsAllAdjacentAnswer}
 use Rattle.std.specs.Simd.{first_chunks}
 use Rattle.std.specs.List.Sorted.{IsNonDecreasingBy}
@@ -72,6 +73,14 @@ follows_end r s e = leb-true (r.start + r.len) s.start (and_parts _ _ e).1
 -- A range holds an address, or starts above it, or ends at it or below.
 pub holds_yes : (r : Range) (p : ℕ) → r.start ≤ p → p - r.start < r.len → holds r p ≡ true
 holds_yes r p h k = and_from _ _ (le-leb r.start p h) (lt-ltb (p - r.start) r.len k)
+
+-- A range that starts at an address or below and does not hold it ends there or below.
+pub holds_no : (r : Range) (p : ℕ) → r.start ≤ p → holds r p ≡ false → r.len ≤ p - r.start
+holds_no r p h k =
+    elim (dec_lt (p - r.start) r.len) [
+      | yes inside ↦ absurd (true≢false (sym (holds_yes r p h inside) ∙ k))
+      | no outside ↦ omega arith
+    ]
 
 pub holds_above : (r : Range) (p : ℕ) → p < r.start → holds r p ≡ false
 holds_above r p h = and_left _ _ (lt-leb r.start p h)

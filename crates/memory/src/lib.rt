@@ -2,12 +2,12 @@
 // Addresses are compared and subtracted, and never added to before a range is found.
 #![tactic(auto)]
 
-ghost use Rattle.std.specs.Prelude.{◌≡◌, true, false, leb, ◌+◌, ◌/◌, ◌^◌, ◌≤◌, ◌<◌, length, map, IfOk, IfErr, MatchOption};
+ghost use Rattle.std.specs.Prelude.{◌≡◌, true, false, ◌+◌, ◌/◌, ◌^◌, ◌≤◌, ◌<◌, length, map, IfOk, IfErr, MatchOption};
 ghost use Rattle.std.specs.List.{list_all};
 ghost use Rattle.std.specs.List.Sorted.{IsPartitionPoint, IsPartitionedBy};
 ghost use Rattle.field.specs.First.{when};
 ghost use Rattle.memory.specs.Ranges.{range_of, ranges_of, inside, follows, ordered, right};
-ghost use Rattle.memory.specs.Places.{holds, place_in, place_of, view_of};
+ghost use Rattle.memory.specs.Places.{holds, place_in, place_of, starts_up_to, view_of, Unmapped};
 
 use refusal::Refusal;
 
@@ -92,8 +92,8 @@ fn listed(numbers: &[u64]) -> &[[u64; 3]]
 #[inline(never)]
 fn starting_up_to(ranges: &[[u64; 3]], p: u64) -> usize
     ensures bound { result ≤ length ranges.now }
-    ensures parted { IsPartitionedBy (λ numbers. leb (range_of numbers).start p) ranges.now
-        → IsPartitionPoint (λ numbers. leb (range_of numbers).start p ≡ true) (λ numbers. leb (range_of numbers).start p ≡ false) ranges.now result }
+    ensures parted { IsPartitionedBy (starts_up_to p) ranges.now
+        → IsPartitionPoint (λ numbers. starts_up_to p numbers ≡ true) (λ numbers. starts_up_to p numbers ≡ false) ranges.now result }
 {
     ranges.partition_point(|numbers| Range::from(*numbers).start <= p)
 }
@@ -189,9 +189,21 @@ impl<'a, 'r> Memory<'a, 'r> {
         let (_, bytes) = self.look_up(p);
         bytes
     }
+
+    // Up to where nothing is mapped, from an address on that no range holds: up to the start of the next range.
+    pub fn unmapped_up_to(self, p: u64) -> u64
+        ensures { place_of (ranges_of self.entry.ranges.now) p ≡ None → Unmapped self.entry.ranges.now p result }
+    {
+        let ranges = listed(self.ranges);
+        let starting = starting_up_to(ranges, p);
+        match ranges.get(starting) {
+            Some(numbers) => Range::from(*numbers).start,
+            None => u64::MAX,
+        }
+    }
 }
 
-// As `Memory::locate`, of a slice and a right list of its ranges. This public form keeps its demand and no refusal.
+// As `Memory::locate`, for whoever has slice and list apart. It asks for a right list, so there is nothing to refuse.
 pub fn locate(image: &[u8], ranges: &[u64], p: u64) -> Option<Place>
     requires { right (length image.now) ranges.now ≡ true }
     ensures { result ≡ place_of (ranges_of ranges.now) p }

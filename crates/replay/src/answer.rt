@@ -1,23 +1,31 @@
 // The ten questions about an image, asked of the proved functions, and the values of their answers as the stored file has them.
-use cases::case::{Case, Outcome, low, number};
+use cases::case::{Case, Outcome, low, number, read_numbers};
 use cases::replay::Questions;
+use cases::tally::Count;
 use memory::Memory;
 use rsdp::Rsdp;
 use sdt::Wanted;
-use std::alloc::{AllocError, Global};
+use std::io;
 use tables::{RootTable, Table};
 
 // Room for 66 ranges, two more than a right list has. A case with more is refused.
 const RANGES_ROOM: usize = 66 * 3;
 
-pub struct ImageQuestions;
+// The questions, with the room that the ranges of a case are read into.
+#[derive(Drop)]
+pub struct ImageQuestions {
+    ranges: [u64; RANGES_ROOM],
+}
+
+impl ImageQuestions {
+    pub fn new() -> Self {
+        ImageQuestions {
+            ranges: [0; RANGES_ROOM],
+        }
+    }
+}
 
 impl Questions for ImageQuestions {
-    const ROOM: usize = 0x10_0000;
-
-    // The largest image has an area of the search and the word at 40e.
-    const IMAGE_ROOM: usize = 0x2_0004;
-
     const LABELS: &'static [(u32, &'static str)] = &[
         (1, "1 is_right"),
         (2, "2 root_pointer_at"),
@@ -31,19 +39,19 @@ impl Questions for ImageQuestions {
         (10, "10 table_at of any signature"),
     ];
 
-    fn ask(&self, _alloc: Global, case: &Case) -> Result<Option<Outcome>, AllocError> {
-        if RANGES_ROOM < case.ranges.len() {
-            return Ok(None);
-        }
-        Ok(ask(case))
+    fn print(rt: &impl Print, _id: u32, label: &str, count: Count) -> io::Result<()> {
+        println!(rt; "{label}: {count}")
+    }
+
+    fn ask(&mut self, case: &Case) -> Option<Outcome> {
+        ask(case, read_numbers(&mut self.ranges, case.ranges)?)
     }
 }
 
 // Asks the question that has this number and so many arguments. tests/reference/reading.py has the same numbers, which stay numbers
 // here: an enum of the questions would name each call a second time and say nothing more.
-fn ask(case: &Case) -> Option<Outcome> {
+fn ask(case: &Case, ranges: &[u64]) -> Option<Outcome> {
     let image = case.image;
-    let ranges = case.ranges;
     let stored = &case.stored;
     let outcome = match (case.id, case.arguments) {
         (1, []) => stored.outcome(Memory::new(image, ranges).map(|_| [])),

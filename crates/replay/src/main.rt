@@ -6,9 +6,25 @@
 
 mod answer;
 
+use cases::file::room;
 use cases::replay::replay_files;
 use std::io;
 
+// Room for more than a stored file has.
+const FILE_ROOM: usize = 0x10_0000;
+
+// Room for the largest image, which has an area of the search and the word at 40e.
+const IMAGE_ROOM: usize = 0x2_0004;
+
 fn main(rt: HostRuntime) -> io::Result<()> {
-    replay_files(&rt, &answer::ImageQuestions, "questions")
+    let mut file_room = room::<FILE_ROOM>();
+    let mut image_room = room::<IMAGE_ROOM>();
+    let mut questions = answer::ImageQuestions::new();
+    replay_files(
+        &rt,
+        &mut questions,
+        "questions",
+        &mut file_room,
+        &mut image_room,
+    )
 }

@@ -3,45 +3,60 @@ use crate::lists;
 use address::GenericAddress;
 use cases::case::{Case, Outcome, low, number};
 use cases::replay::Questions;
+use cases::tally::Count;
 use hpet::HpetInfo;
 use madt::{Madt, MadtEntry};
 use mcfg::McfgEntry;
 use platform::Model;
 use refusal::Refusal;
-use std::alloc::{AllocError, Global};
+use std::io;
 
-pub struct TableQuestions;
+// The questions, with the rooms of the tables that the one for the lists lends.
+#[derive(Drop)]
+pub struct TableQuestions {
+    rooms: lists::Rooms,
+}
+
+impl TableQuestions {
+    pub fn new() -> Self {
+        TableQuestions {
+            rooms: lists::Rooms::new(),
+        }
+    }
+}
 
 impl Questions for TableQuestions {
-    const ROOM: usize = 0x20_0000;
-
-    // Room for a table of 4,096 processors.
-    const IMAGE_ROOM: usize = 36864;
-
     const LABELS: &'static [(u32, &'static str)] = &[
-        (20, "question 20, MCFG, number of entries"),
-        (21, "question 21, MCFG, entry"),
-        (22, "question 22, MCFG, configuration space of a function"),
-        (30, "question 30, HPET"),
-        (40, "question 40, FADT, register"),
-        (41, "question 41, FADT, firmware control"),
-        (42, "question 42, FADT, DSDT"),
-        (43, "question 43, FADT, plain field"),
-        (44, "question 44, FADT, flag"),
-        (50, "question 50, MADT, fixed part"),
-        (51, "question 51, MADT, entry"),
-        (52, "question 52, interrupt model"),
-        (53, "question 53, lists of the interrupt model"),
-        (54, "question 54, mailbox"),
+        (20, "MCFG, number of entries"),
+        (21, "MCFG, entry"),
+        (22, "MCFG, configuration space of a function"),
+        (30, "HPET"),
+        (40, "FADT, register"),
+        (41, "FADT, firmware control"),
+        (42, "FADT, DSDT"),
+        (43, "FADT, plain field"),
+        (44, "FADT, flag"),
+        (50, "MADT, fixed part"),
+        (51, "MADT, entry"),
+        (52, "interrupt model"),
+        (53, "lists of the interrupt model"),
+        (54, "mailbox"),
     ];
 
-    fn ask(&self, alloc: Global, case: &Case) -> Result<Option<Outcome>, AllocError> {
+    // Three writes: what stands behind a failing one is not written, and what stands before it is.
+    fn print(rt: &impl Print, id: u32, label: &str, count: Count) -> io::Result<()> {
+        print!(rt; "question {id}, ")?;
+        print!(rt; "{label}")?;
+        println!(rt; ": {count}")
+    }
+
+    fn ask(&mut self, case: &Case) -> Option<Outcome> {
         match (case.id, case.arguments) {
             (53, [p, i, o, n, l]) => {
                 let lengths = [number(p), number(i), number(o), number(n), number(l)];
-                lists::ask(alloc, case, lengths)
+                lists::ask(&mut self.rooms, case, lengths)
             }
-            _ => Ok(ask(case)),
+            _ => ask(case),
         }
     }
 }

@@ -1,31 +1,59 @@
 // The five lists of the interrupt model, filled into lent tables and compared word by word with the stored ones.
 use cases::case::{Case, Outcome, low, number};
-use std::alloc::{AllocError, Global};
 
 // What stands in a lent table before it is filled. No record of a stored case has this word.
 const UNTOUCHED: u32 = 0xa5a5_a5a5;
 
 // Room for the records of 4,096 processors. A case with longer tables is refused.
-const ROOM: u64 = 12304;
+const ROOM: usize = 12304;
 
+// The rooms of the lent tables. They last for all questions, so none of them takes memory of its own.
 #[derive(Drop)]
-struct Tables {
-    processors: Vec<u32>,
-    io_apics: Vec<u32>,
-    overrides: Vec<u32>,
-    nmi_sources: Vec<u32>,
-    nmi_lines: Vec<u32>,
+pub struct Rooms {
+    processors: [u32; ROOM],
+    io_apics: [u32; ROOM],
+    overrides: [u32; ROOM],
+    nmi_sources: [u32; ROOM],
+    nmi_lines: [u32; ROOM],
 }
 
-impl Tables {
-    fn untouched(alloc: Global, lengths: [usize; 5]) -> Result<Self, AllocError> {
+impl Rooms {
+    pub fn new() -> Self {
+        Rooms {
+            processors: [0; ROOM],
+            io_apics: [0; ROOM],
+            overrides: [0; ROOM],
+            nmi_sources: [0; ROOM],
+            nmi_lines: [0; ROOM],
+        }
+    }
+}
+
+// A table of this length at the front of its room, before it is filled. None where the room is too small.
+fn untouched(room: &mut [u32; ROOM], length: u64) -> Option<&mut [u32]> {
+    let table = room.get_mut(..length as usize)?;
+    table.fill(UNTOUCHED);
+    Some(table)
+}
+
+#[derive(Drop)]
+struct Tables<'a> {
+    processors: &'a mut [u32],
+    io_apics: &'a mut [u32],
+    overrides: &'a mut [u32],
+    nmi_sources: &'a mut [u32],
+    nmi_lines: &'a mut [u32],
+}
+
+impl<'a> Tables<'a> {
+    fn untouched(rooms: &'a mut Rooms, lengths: [u64; 5]) -> Option<Self> {
         let [processors, io_apics, overrides, nmi_sources, nmi_lines] = lengths;
-        Ok(Tables {
-            processors: vec![in alloc; UNTOUCHED; processors]?,
-            io_apics: vec![in alloc; UNTOUCHED; io_apics]?,
-            overrides: vec![in alloc; UNTOUCHED; overrides]?,
-            nmi_sources: vec![in alloc; UNTOUCHED; nmi_sources]?,
-            nmi_lines: vec![in alloc; UNTOUCHED; nmi_lines]?,
+        Some(Tables {
+            processors: untouched(&mut rooms.processors, processors)?,
+            io_apics: untouched(&mut rooms.io_apics, io_apics)?,
+            overrides: untouched(&mut rooms.overrides, overrides)?,
+            nmi_sources: untouched(&mut rooms.nmi_sources, nmi_sources)?,
+            nmi_lines: untouched(&mut rooms.nmi_lines, nmi_lines)?,
         })
     }
 
@@ -33,11 +61,11 @@ impl Tables {
     fn fill(&mut self, table: &[u8]) -> u32 {
         let filled = platform::fill(
             table,
-            &mut self.processors,
-            &mut self.io_apics,
-            &mut self.overrides,
-            &mut self.nmi_sources,
-            &mut self.nmi_lines,
+            self.processors,
+            self.io_apics,
+            self.overrides,
+            self.nmi_sources,
+            self.nmi_lines,
         );
         filled.map_or_else(u32::from, |()| 0)
     }
@@ -45,11 +73,11 @@ impl Tables {
     // In the order in which their lists are stored.
     fn in_order(&self) -> [&[u32]; 5] {
         [
-            self.processors.as_slice(),
-            self.io_apics.as_slice(),
-            self.overrides.as_slice(),
-            self.nmi_sources.as_slice(),
-            self.nmi_lines.as_slice(),
+            self.processors,
+            self.io_apics,
+            self.overrides,
+            self.nmi_sources,
+            self.nmi_lines,
         ]
     }
 
@@ -94,19 +122,16 @@ fn behind_held<'a>(table: &[u32], values: &'a [[u8; 8]]) -> Option<&'a [[u8; 8]]
 
 // Asks for the lists, with lent tables of these lengths. None where one of them is too long. A refusal must leave all tables as they
 // were.
-pub fn ask(alloc: Global, case: &Case, lengths: [u64; 5]) -> Result<Option<Outcome>, AllocError> {
-    if lengths.iter().any(|length| ROOM < *length) {
-        return Ok(None);
-    }
-    let mut tables = Tables::untouched(alloc, lengths.map(|length| length as usize))?;
+pub fn ask(rooms: &mut Rooms, case: &Case, lengths: [u64; 5]) -> Option<Outcome> {
+    let mut tables = Tables::untouched(rooms, lengths)?;
     let number = tables.fill(case.image);
     let right = if case.stored.number == 0 {
         tables.hold(case.stored.values)
     } else {
         tables.are_untouched()
     };
-    Ok(Some(Outcome {
+    Some(Outcome {
         number,
         same: number == case.stored.number && right,
-    }))
+    })
 }

@@ -7,9 +7,25 @@
 mod answer;
 mod lists;
 
+use cases::file::room;
 use cases::replay::replay_files;
 use std::io;
 
+// Room for more than a stored file has.
+const FILE_ROOM: usize = 0x20_0000;
+
+// Room for a table of 4,096 processors.
+const IMAGE_ROOM: usize = 36864;
+
 fn main(rt: HostRuntime) -> io::Result<()> {
-    replay_files(&rt, &answer::TableQuestions, "tables")
+    let mut file_room = room::<FILE_ROOM>();
+    let mut image_room = room::<IMAGE_ROOM>();
+    let mut questions = answer::TableQuestions::new();
+    replay_files(
+        &rt,
+        &mut questions,
+        "tables",
+        &mut file_room,
+        &mut image_room,
+    )
 }

@@ -1,5 +1,5 @@
 -- Laws about the search: the walk over an area, and the two areas in a row.
-use Rattle.std.proofs.Common.{ℕ, zero, suc, ◌+◌, ◌-◌, ◌*◌, ◌≤◌, ◌<◌, ◌≡◌, refl, ap, ap₂, sym, ◌∙◌, List, ◌∷◌, ◌++◌, true, false, not, ◌&&◌, Bool, ◌⊎◌, ⊎_elim, length, drop, sub-one, subst, T, max, arith}
+use Rattle.std.proofs.Common.{ℕ, zero, suc, ◌+◌, ◌-◌, ◌*◌, ◌≤◌, ◌<◌, ◌≡◌, refl, ap, ap₂, sym, ◌∙◌, List, [], ◌∷◌, ◌++◌, true, false, not, ◌&&◌, Bool, ◌⊎◌, ⊎_elim, length, drop, sub-one, subst, T, max, arith}
 use Rattle.std.specs.Prelude.{Option, Some, None, Result, Ok, Err}
 use Rattle.std.specs.Result.{is_ok}
 use Rattle.std.specs.Option.{is_some, ok_or}
@@ -11,9 +11,9 @@ use Rattle.refusal.specs.declared.Refusal.{Refusal}
 use Rattle.refusal.specs.declared.Refusal.TheVariants.{PointerNotFound}
 use Rattle.field.proofs.FirstLaws.{less_yes, less_no, when_hit, when_pass, err_not_ok}
 use Rattle.field.proofs.ChoiceLaws.{choice_here, choice_refused, choice_none, append_found, append_none, ok_no}
-use Rattle.memory.specs.Ranges.{right}
-use Rattle.memory.specs.Places.{view_of}
-use Rattle.memory.proofs.PlaceLaws.{view_rest}
+use Rattle.memory.specs.Ranges.{right, ranges_of}
+use Rattle.memory.specs.Places.{view_of, place_of}
+use Rattle.memory.proofs.PlaceLaws.{view_rest, view_none}
 use Rattle.rsdp.specs.Pointer.{pointer_checked}
 use Rattle.rsdp.specs.Search.{every_sixteen, candidates, segment_of, second_area, searched, checked_at, checked_in, search_of}
 use Rattle.rsdp.proofs.PointerLaws.{pointer_short}
@@ -78,6 +78,26 @@ pub view_short : (image words v : List ℕ) (n p : ℕ) → v ≡ view_of image 
 unfolding checked_at
 view_short image words v n p view h k =
     area_later (checked_at image words) n p k (ok_no _ (ap pointer_checked (sym view) ∙ pointer_short v h))
+
+-- Where no range holds the first k places no root pointer stands at them, and those behind decide.
+pub unmapped_behind : (image words : List ℕ) (k left p : ℕ) → k ≤ left
+    → ((i : ℕ) → i < k → place_of (ranges_of words) (p + 16 * i) ≡ None)
+    → nth_valid (checked_at image words) 0 (every_sixteen left p)
+    ≡ nth_valid (checked_at image words) 0 (every_sixteen (left - k) (p + 16 * k))
+unmapped_behind image words zero left p h none =
+    let all : left ≡ left - 0 = omega arith in
+    let here : p ≡ p + 16 * 0 = omega arith in
+    ap₂ (λ (n q : ℕ). nth_valid (checked_at image words) 0 (every_sixteen n q)) all here
+unmapped_behind image words (suc k) left p h none =
+    let here : p + 16 * 0 ≡ p = omega arith in
+    let first = view_none image words p (ap (λ (q : ℕ). place_of (ranges_of words) q) (sym here) ∙ none 0 (omega arith)) in
+    let later : (i : ℕ) → i < k → place_of (ranges_of words) (p + 16 + 16 * i) ≡ None =
+    λ i b. (let on : p + 16 + 16 * i ≡ p + 16 * suc i = omega arith in ap (λ (q : ℕ). place_of (ranges_of words) q) on ∙ none (suc i) (omega arith)) in
+    let places : left - 1 - k ≡ left - suc k = omega arith in
+    let start : p + 16 + 16 * k ≡ p + 16 * suc k = omega arith in
+    view_short image words [] left p (sym first) (omega arith) (omega arith)
+    ∙ unmapped_behind image words k (left - 1) (p + 16) (omega arith) later
+    ∙ ap₂ (λ (n q : ℕ). nth_valid (checked_at image words) 0 (every_sixteen n q)) places start
 
 -- The first n places from p on lie in the view from p.
 module _ (image words v : List ℕ) (p n : ℕ) (e : right (length image) words ≡ true) (view : v ≡ view_of image words p)

@@ -182,6 +182,13 @@ impl Area {
         }
     }
 
+    // How many of its first places have all their 16 bytes below an address.
+    fn below(self, end: u64) -> u64
+        ensures { result ≡ min self.places ((end - self.start) / 16) }
+    {
+        self.places.min(end.saturating_sub(self.start) / 16)
+    }
+
     // The places behind its first ones.
     fn behind(self, passed: u64) -> Area
         requires { passed ≤ self.places }
@@ -209,14 +216,19 @@ fn search_view(view: &[u8], area: Area) -> Option<u64>
 }
 
 // The first valid root pointer of an area. A range is looked up once for all of its places at which 20 bytes can be read;
-// where fewer can, no root pointer stands. How many places the loop goes on by is known only once a view was looked up, so it
-// is neither a `for` nor a chain.
+// where fewer can, no root pointer stands, and where nothing is mapped the search goes on at the next range. How many places the
+// loop goes on by is known only once a view was looked up, so it is neither a `for` nor a chain.
 fn search_area(memory: Memory, area: Area) -> Option<u64>
     ensures { result ≡ nth_valid (checked_at memory.entry.image.now memory.entry.ranges.now) 0 (every_sixteen area.places area.start) }
 {
     let mut left = area;
     while 0 < left.places {
         let view = memory.view(left.start);
+        if view.is_empty() {
+            let passed = left.below(memory.unmapped_up_to(left.start));
+            left = left.behind(passed.max(1));
+            continue;
+        }
         let here = left.within(view.len());
         let found = search_view(view, here);
         if found.is_some() {

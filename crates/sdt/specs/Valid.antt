@@ -22,12 +22,12 @@ wrong_sum t = differ (sum (whole_of t) % 256) 0
 unfoldable pub cut_off : List ℕ → Bool
 cut_off t = less (length t) (length_of t)
 
+-- the ids of the table's maker are no text
+abbrev pub id_reasons : List ℕ → List (Reason Refusal)
+id_reasons t = (not (text (maker_of t)) gives WrongOemId) ∷ (not (text (table_id_of t)) gives WrongTableId) ∷ []
+
 unfoldable pub header_reasons : Wanted → List ℕ → List (Reason Refusal)
-header_reasons wanted t =
-    (wrong_signature wanted t gives WrongSignature)
-    ∷ (not (text (maker_of t)) gives WrongOemId)
-    ∷ (not (text (table_id_of t)) gives WrongTableId)
-    ∷ []
+header_reasons wanted t = (wrong_signature wanted t gives WrongSignature) ∷ id_reasons t
 
 -- A slice that is handed over as a table of at least so many bytes: it has a header, and is as long as it states.
 unfoldable pub whole_checked : ℕ → List ℕ → Result (Unit {0}) Refusal

@@ -2,7 +2,7 @@
 use Rattle.std.proofs.Common.{◌≡◌, ◌∙◌, refl, ap, sym, subst, arith, length, rules}
 use Rattle.std.proofs.lemmas.Result.{err_from_is_err_and}
 use Rattle.std.specs.Prelude.{Option, Some, Ok, map}
-use Rattle.madt.proofs.EntryLaws.{Standing, entries_stand, standing_rest}
+use Rattle.madt.proofs.EntryLaws.{Standing, entries_stand, standing_rest, standing_entry}
 use Rattle.platform.specs.declared.Record.{Record}
 use Rattle.platform.specs.Lists.ListName.{processors, io_apics, interrupt_source_overrides, nmi_sources, local_apic_nmi_lines}
 use Rattle.platform.proofs.RoomLaws.{Rooms, accepted, refused, sound, fill_refused, fill_short, fill_fits, has_room, untouched}
@@ -40,6 +40,12 @@ turned :
     (c : After-to_record) {r : Option Record} → c.to_record.result ≡ r →
     Turn c.args.table.now (to_come c.loop-e.e-iterator) (to_come c.next.new.self) c.loop-e.processors.written c.in-Some.e r
 turned c same = turn (ap (map Ok) c.in-Some.ensures.steps) refl c.enabled_at.ensures c.to_record.ensures same
+
+-- An entry that stands in the table has all bytes that its kind needs.
+pub invariant_of-entry : goal.invariant_of-entry
+invariant_of-entry c =
+    let here = standing_entry c.loop-e.invariant.standing (ap (map Ok) c.in-Some.ensures.steps) in
+    record { inside = search (rules, here) }
 
 pub of-e-items-requires : goal.of-e-items-requires
 of-e-items-requires c = sound _ (accepted (sym c.interrupt_model.ensures ∙ c.in_ok-m.was)).none

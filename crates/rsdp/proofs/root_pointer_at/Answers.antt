@@ -1,5 +1,5 @@
 -- `root_pointer_at` meets its contract: a wrong list is refused, else the view at the address decides.
-use Rattle.std.proofs.Common.{rules, ap, sym, ◌∙◌, List, ℕ}
+use Rattle.std.proofs.Common.{rules, ap, ◌∙◌, List, ℕ}
 use Rattle.memory.specs.Places.{view_of}
 use Rattle.memory.proofs.AskedLaws.{asked_lent, asked_wrong}
 use Rattle.rsdp.specs.Pointer.{root_pointer_of}
