@@ -2,6 +2,10 @@
 use Rattle.std.specs.Prelude.{◌≡◌, ◌≢◌, ◌+◌, ◌-◌, ◌^◌, ℕ, Bool, List, if◌then◌else◌, min, option_map, slice_get}
 use Rattle.cases.specs.declared.tally.Count.{Count}
 
+-- No question yet.
+abbrev pub none_asked : Count
+none_asked = record { asked = 0; differed = 0 }
+
 -- One question more, and one that differs more unless its answer is the same, as far as the numbers go.
 abbrev pub counted : Count → Bool → Count
 counted c same =

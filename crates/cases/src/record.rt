@@ -37,11 +37,15 @@ pub struct Reader<'a> {
 impl<'a> Reader<'a> {
     ghost use Rattle.cases.specs.Reader.{Moves};
 
-    pub fn new(file: &'a [u8]) -> Self {
+    pub fn new(file: &'a [u8]) -> Self
+        ensures { (result.file.now ≡ file.now) × (result.at ≡ 0) }
+    {
         Reader { file, at: 0 }
     }
 
-    pub fn at(&self) -> usize {
+    pub fn at(&self) -> usize
+        ensures { result ≡ self.now.at }
+    {
         self.at
     }
 

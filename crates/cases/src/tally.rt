@@ -1,6 +1,6 @@
 // How many questions were asked and how many answers differed, of each question and of all.
-ghost use Rattle.std.specs.Prelude.{◌≡◌, ◌<◌, ◌↔◌, false, IfSome, IsSome, IsTrue, OnSome, slice_get};
-ghost use Rattle.cases.specs.Tally.{Notes, counted};
+ghost use Rattle.std.specs.Prelude.{◌≡◌, ◌<◌, ◌↔◌, false, IfSome, IsSome, IsTrue, OnSome, replicate, slice_get};
+ghost use Rattle.cases.specs.Tally.{Notes, counted, none_asked};
 
 use std::{fmt, io};
 
@@ -40,7 +40,9 @@ pub struct Tally {
 }
 
 impl Tally {
-    pub fn new() -> Self {
+    pub fn new() -> Self
+        ensures { (result.all ≡ none_asked) × (result.by_question ≡ replicate NUMBERS none_asked) }
+    {
         Tally {
             all: Count::default(),
             by_question: [Count::default(); NUMBERS],
