@@ -46,9 +46,11 @@ RSDT = signature(b"RSDT")
 
 
 class Cases:
-    """Collects the records, and asks the plain reading for every answer."""
+    """Collects the records, and asks the plain reading for every answer, or
+    whatever else answers a question about an image."""
 
-    def __init__(self):
+    def __init__(self, answer=reading.ask_image):
+        self.answer = answer
         self.parts = []
         self.images = 0
         self.questions = 0
@@ -71,7 +73,7 @@ class Cases:
         changed = bytearray(self.image_now)
         for offset, value in patches:
             changed[offset] = value
-        answer, values = reading.ask_image(
+        answer, values = self.answer(
             question, bytes(changed), self.ranges_now, arguments
         )
         self.questions += 1

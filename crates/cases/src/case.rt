@@ -136,9 +136,22 @@ impl<'i, 'f> Case<'i, 'f> {
         }
         let laid_out = &mut room[..image.bytes.len()];
         laid_out.copy_from_slice(image.bytes);
-        patch_all(laid_out, question.patches)?;
+        Case::laid_out(laid_out, image, question)
+    }
+
+    // The same where the image's bytes stand in the room already and fill it.
+    pub(crate) fn laid_out(
+        room: &'i mut [u8],
+        image: Image<'f>,
+        question: Question<'f>,
+    ) -> Option<Self>
+        requires { room.now ≡ image.bytes.now }
+        ensures value { IfSome result (IsOf image.entry question.entry) }
+        ensures inside { IsSome result ↔ All (λ p. offset_of p < length image.entry.bytes.now) question.entry.patches.now }
+    {
+        patch_all(room, question.patches)?;
         Some(Case {
-            image: laid_out,
+            image: room,
             ranges: image.ranges,
             id: question.id,
             arguments: question.arguments,

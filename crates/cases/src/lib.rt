@@ -4,6 +4,8 @@
 
 pub mod case;
 pub mod file;
+mod in_heap;
+mod map_tally;
 mod record;
 pub mod replay;
 pub mod tally;

@@ -1,14 +1,28 @@
 // Asks a program's questions of the images of stored files, and compares each answer with the stored one.
 use crate::case::{Case, Outcome};
 use crate::file::read_full;
+use crate::in_heap;
 use crate::record::{Image, Question, Reader, Record};
 use crate::tally::{Count, Tally};
+use std::alloc::{AllocError, Global};
 use std::io::Read;
 use std::rt::Files;
 use std::{fs, io};
 
-// What a program asks.
+// What a program asks that may take memory.
 pub trait Questions {
+    // Room for more than a stored file has. A file that fills it up may be cut off, and then its end is missing.
+    const ROOM: usize;
+
+    // What the tally of each question is called, by the question's number in the file.
+    const LABELS: &'static [(u32, &'static str)];
+
+    // Asks the question of a case. None where the program has no such question, or can't ask it about such a case.
+    fn ask(&self, alloc: Global, case: &Case) -> Result<Option<Outcome>, AllocError>;
+}
+
+// What a program asks that takes none: what it needs stands in rooms of its own.
+pub trait QuestionsInRooms {
     // What the tally of each question is called, by the question's number in the file.
     const LABELS: &'static [(u32, &'static str)];
 
@@ -21,7 +35,7 @@ pub trait Questions {
 
 // Why no tallies of a file are written: no record can be read at a place, or the system fails.
 #[derive(Drop)]
-enum Stop {
+pub(crate) enum Stop {
     Unreadable(usize),
     Failed(io::Error),
 }
@@ -34,7 +48,7 @@ impl From<io::Error> for Stop {
 
 // The outcome of a question about the image before it. None where there is no image, or where the question can't be asked about it.
 fn ask(
-    questions: &mut impl Questions,
+    questions: &mut impl QuestionsInRooms,
     room: &mut [u8],
     image: Option<Image>,
     question: Question,
@@ -43,7 +57,7 @@ fn ask(
 }
 
 // Writes a line about an answer that differs.
-fn show(rt: &impl Print, question: Question, outcome: Outcome) -> io::Result<()> {
+pub(crate) fn show(rt: &impl Print, question: Question, outcome: Outcome) -> io::Result<()> {
     print!(rt;
         "record at {}, question {}: wanted {}, got {}",
         question.at, question.id, question.answer, outcome.number
@@ -57,7 +71,7 @@ fn show(rt: &impl Print, question: Question, outcome: Outcome) -> io::Result<()>
 // Takes the records of a file in order, up to its end.
 fn replay(
     rt: &impl Print,
-    questions: &mut impl Questions,
+    questions: &mut impl QuestionsInRooms,
     file: &[u8],
     image_room: &mut [u8],
 ) -> Result<Tally, Stop> {
@@ -86,14 +100,14 @@ fn replay(
 }
 
 // The line of each question, and then the sums.
-fn print_tallies<Q: Questions>(rt: &impl Print, tally: Tally) -> io::Result<()> {
+fn print_tallies<Q: QuestionsInRooms>(rt: &impl Print, tally: Tally) -> io::Result<()> {
     for (id, label) in Q::LABELS {
         Q::print(rt, *id, label, tally.of_question(*id))?;
     }
     tally.print_sums(rt)
 }
 
-fn replay_opened<Q: Questions>(
+fn replay_opened<Q: QuestionsInRooms>(
     rt: &impl Print,
     questions: &mut Q,
     mut file: impl Read + Drop,
@@ -111,7 +125,7 @@ fn replay_opened<Q: Questions>(
 // Replays a file, or says that it can't be opened.
 fn replay_named(
     rt: &(impl Files + Print + Eprint),
-    questions: &mut impl Questions,
+    questions: &mut impl QuestionsInRooms,
     name: &str,
     file_room: &mut [u8],
     image_room: &mut [u8],
@@ -124,10 +138,11 @@ fn replay_named(
 
 // Replays the file of that name, and then the answers of the comparison with the crate. The rooms are lent, so that nothing here asks
 // for memory. A file that fills its room up may be cut off, and then its end is missing; a question about an image that is larger
-// than its room can't be asked. What a file gives and what is written no clause can say.
-pub fn replay_files(
+// than its room can't be asked, nor can one whose number has no count (`Tally`). What a file gives and what is written no clause can
+// say.
+pub fn replay_files_in_rooms(
     rt: &(impl Files + Print + Eprint),
-    questions: &mut impl Questions,
+    questions: &mut impl QuestionsInRooms,
     name: &str,
     file_room: &mut [u8],
     image_room: &mut [u8],
@@ -135,4 +150,16 @@ pub fn replay_files(
     replay_named(rt, questions, name, file_room, image_room)?;
     println!(rt; "answers of the comparison with the crate:")?;
     replay_named(rt, questions, "oracle", file_room, image_room)
+}
+
+// Replays the file of that name, and then the answers of the comparison with the crate, for a program that may take memory: an image
+// may be as large as the file, and a question has any number. What a file gives and what is written no clause can say.
+pub fn replay_files<R: Files + Print + Eprint + AllocGlobal>(
+    rt: &R,
+    questions: &impl Questions,
+    name: &str,
+) -> io::Result<()> {
+    in_heap::replay_named(rt, questions, name)?;
+    println!(rt; "answers of the comparison with the crate:")?;
+    in_heap::replay_named(rt, questions, "oracle")
 }

@@ -1,11 +1,11 @@
 // How many questions were asked and how many answers differed, of each question and of all.
 ghost use Rattle.std.specs.Prelude.{◌≡◌, ◌<◌, ◌↔◌, false, IfSome, IsSome, IsTrue, OnSome, replicate, slice_get};
-ghost use Rattle.cases.specs.Tally.{Notes, counted, none_asked};
+ghost use Rattle.cases.specs.Tally.{NotesInRow, counted, none_asked};
 
 use std::{fmt, io};
 
 // So many differences are shown; the others are counted.
-const SHOWN: u64 = 10;
+pub(crate) const SHOWN: u64 = 10;
 
 // The numbers of the questions lie below this one.
 const NUMBERS: usize = 64;
@@ -52,7 +52,7 @@ impl Tally {
     // Counts a question, and says whether its answer is one of the first that differ. None where no question has this number.
     pub fn note(&mut self, id: u32, same: bool) -> Option<bool>
         ensures all { self.new.all ≡ counted self.old.all same }
-        ensures question { OnSome result (Notes self.old.by_question self.new.by_question id same) }
+        ensures question { OnSome result (NotesInRow self.old.by_question self.new.by_question id same) }
         ensures shown { IfSome result (λ shown. IsTrue shown ↔ ((same ≡ false) × (self.old.all.differed < SHOWN))) }
         ensures counts { IsSome result ↔ (id < NUMBERS) }
     {

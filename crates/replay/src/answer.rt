@@ -1,6 +1,6 @@
 // The ten questions about an image, asked of the proved functions, and the values of their answers as the stored file has them.
 use cases::case::{Case, Outcome, low, number, read_numbers};
-use cases::replay::Questions;
+use cases::replay::QuestionsInRooms;
 use cases::tally::Count;
 use memory::Memory;
 use rsdp::Rsdp;
@@ -25,7 +25,7 @@ impl ImageQuestions {
     }
 }
 
-impl Questions for ImageQuestions {
+impl QuestionsInRooms for ImageQuestions {
     const LABELS: &'static [(u32, &'static str)] = &[
         (1, "1 is_right"),
         (2, "2 root_pointer_at"),

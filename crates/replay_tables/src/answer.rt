@@ -2,7 +2,7 @@
 use crate::lists;
 use address::GenericAddress;
 use cases::case::{Case, Outcome, low, number};
-use cases::replay::Questions;
+use cases::replay::QuestionsInRooms;
 use cases::tally::Count;
 use hpet::HpetInfo;
 use madt::{Madt, MadtEntry};
@@ -25,7 +25,7 @@ impl TableQuestions {
     }
 }
 
-impl Questions for TableQuestions {
+impl QuestionsInRooms for TableQuestions {
     const LABELS: &'static [(u32, &'static str)] = &[
         (20, "MCFG, number of entries"),
         (21, "MCFG, entry"),

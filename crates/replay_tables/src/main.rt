@@ -8,7 +8,7 @@ mod answer;
 mod lists;
 
 use cases::file::room;
-use cases::replay::replay_files;
+use cases::replay::replay_files_in_rooms;
 use std::io;
 
 // Room for more than a stored file has.
@@ -21,7 +21,7 @@ fn main(rt: HostRuntime) -> io::Result<()> {
     let mut file_room = room::<FILE_ROOM>();
     let mut image_room = room::<IMAGE_ROOM>();
     let mut questions = answer::TableQuestions::new();
-    replay_files(
+    replay_files_in_rooms(
         &rt,
         &mut questions,
         "tables",
