@@ -1,7 +1,7 @@
 // The counts of a program that may take memory: a question of any number has one.
 ghost use Rattle.std.specs.Prelude.{◌≡◌, ◌<◌, ◌↔◌, false, IfOk, IsTrue, OnOk};
 ghost use Rattle.std.specs.BTreeMap.{IsEmpty};
-ghost use Rattle.cases.specs.Tally.{Notes, counted, none_asked};
+ghost use Rattle.cases.specs.Tally.{Notes, count_of, counted, none_asked};
 
 use crate::tally::{Count, SHOWN};
 use std::alloc::{AllocError, Global};
@@ -39,11 +39,17 @@ impl MapTally {
         Ok(shown)
     }
 
+    // The count of a question, and no answers where none was counted of it.
+    fn of_question(&self, id: u32) -> Count
+        ensures { result ≡ count_of self.now.by_question id }
+    {
+        self.by_question.get(&id).copied().unwrap_or_default()
+    }
+
     // The line of each question, and then the sums.
     pub fn print(&self, rt: &impl Print, labels: &[(u32, &str)]) -> io::Result<()> {
         for (id, label) in labels {
-            let count = self.by_question.get(id).copied().unwrap_or_default();
-            println!(rt; "{label}: {count}")?;
+            println!(rt; "{label}: {}", self.of_question(*id))?;
         }
         println!(rt; "{} cases, {} differ", self.all.asked, self.all.differed)
     }

@@ -9,7 +9,7 @@ use std::io::Read;
 use std::rt::Files;
 use std::{fs, io};
 
-// What a program asks that may take memory.
+// What a program that may take memory asks.
 pub trait Questions {
     // Room for more than a stored file has. A file that fills it up may be cut off, and then its end is missing.
     const ROOM: usize;
@@ -21,7 +21,7 @@ pub trait Questions {
     fn ask(&self, alloc: Global, case: &Case) -> Result<Option<Outcome>, AllocError>;
 }
 
-// What a program asks that takes none: what it needs stands in rooms of its own.
+// What a program that takes no memory asks: what it needs stands in rooms of its own.
 pub trait QuestionsInRooms {
     // What the tally of each question is called, by the question's number in the file.
     const LABELS: &'static [(u32, &'static str)];
